@@ -1,15 +1,12 @@
+pub mod Bytes
 pub mod Figures
 pub mod Integers
 pub mod Decimals
 pub mod Texts
-pub mod Parts
-pub mod Halves
 pub mod Tens
 pub mod TextsWritten
-pub mod Magnitudes
 pub mod Said
 pub mod Shapes
-pub mod Steps
 pub mod Machine
 pub mod Scans
 pub mod Cases

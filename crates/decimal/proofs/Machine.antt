@@ -3,13 +3,14 @@
 use mathlib.Core.Path.{◌≡◌, refl, ◌∙◌}
 use mathlib.Core.Bool.{Bool, true, false, ◌&&◌}
 use mathlib.Core.List.{[], ◌∷◌}
-use mathlib.Core.Option.{Option, none, some}
+use mathlib.Core.Option.{Option as Maybe, none, some}
 use Prim.Native.Nat.{ℕ, zero, suc, ◌+◌, ◌-◌, ◌*◌, ◌<◌}
 use native.Mathlib.Omega.{arith}
 use borrow.Author.Tests.{lt-leb, le-leb, lt-ltb, le-ltb, eqb-true, eqb-false}
 use lib.Dec.{lit<, leb, ltb, eqb}
 use lib.IntN.{ℤ, pos, neg_ℤ}
 use lib.Signed.{mag}
+use Rattle.std.specs.Prelude.{Option, Some, None}
 use Rattle.format.specs.Octets.{Octets}
 use Rattle.format.specs.Numbers.{pick}
 use Rattle.format.specs.Integers.{half}
@@ -20,38 +21,36 @@ use Rattle.decimal.specs.Words.{is_digit, are_digits, is_positive, is_empty, is_
 use Rattle.decimal.specs.Machine.{most, grown, stepped, stepped_by, integer_by, ended}
 use Rattle.decimal.specs.declared.scanning.Word.{Word}
 use Rattle.decimal.specs.declared.scanning.Word.TheVariants.{Empty, Minus, Zero, Digits, NoWord}
-use Rattle.decimal.specs.declared.scanning.Ended.{Ended}
-use Rattle.decimal.specs.declared.scanning.Ended.TheVariants.{Integer, NoInteger}
 use Rattle.decimal.proofs.Figures.{number_grows}
 
 -- an integer that eight octets hold
-unfoldable pub within : Option ℤ → Ended
-within none = NoInteger
-within (some z) = pick (ltb (mag z) (half 8)) (Integer z) NoInteger
+unfoldable pub within : Maybe ℤ → Option ℤ
+within none = None
+within (some z) = pick (ltb (mag z) (half 8)) (Some z) None
 
 -- where the word ends behind these octets
-abbrev pub ended_by : Word → Octets → Ended
+abbrev pub ended_by : Word → Octets → Option ℤ
 ended_by u y = ended (stepped_by u y)
 
-no_word : (y : Octets) → ended_by NoWord y ≡ NoInteger
+no_word : (y : Octets) → ended_by NoWord y ≡ None
 unfolding stepped_by stepped ended
 no_word [] = refl
 no_word (o ∷ y) = no_word y
 
-zero_word : (y : Octets) → ended_by Zero y ≡ pick (is_empty y) (Integer (pos 0)) NoInteger
+zero_word : (y : Octets) → ended_by Zero y ≡ pick (is_empty y) (Some (pos 0)) None
 unfolding stepped_by stepped ended is_empty
 zero_word [] = refl
 zero_word (o ∷ y) = no_word y
 
 -- ---- digits
 
-too_long : (minus : Bool) (n : ℕ) → half 8 < n → integer_by minus n ≡ NoInteger
+too_long : (minus : Bool) (n : ℕ) → half 8 < n → integer_by minus n ≡ None
 unfolding integer_by
 too_long true n h = rw (lt-leb n (half 8) h)
 too_long false n h = rw (le-ltb n (half 8) (omega arith))
 
 -- no digit behind a number above `most` makes an integer
-behind-most : (minus : Bool) (n o : ℕ) (y : Octets) → most < n → integer_by minus (number 10 0x30 (n * 10 + (o - 0x30)) y) ≡ NoInteger
+behind-most : (minus : Bool) (n o : ℕ) (y : Octets) → most < n → integer_by minus (number 10 0x30 (n * 10 + (o - 0x30)) y) ≡ None
 unfolding half
 behind-most minus n o y h = let g = number_grows 10 0x30 (lit< tt) (n * 10 + (o - 0x30)) y in too_long minus _ (omega arith)
 
@@ -61,8 +60,8 @@ either false a = refl
 
 module _ (minus : Bool) where
   -- a digit more, where the rest is known
-  grown_rest : (n o : ℕ) (y : Octets) → ended_by (Digits minus (n * 10 + (o - 0x30))) y ≡ pick (are_digits y) (integer_by minus (number 10 0x30 (n * 10 + (o - 0x30)) y)) NoInteger
-      → ended_by (grown minus n o) y ≡ pick (is_digit o && are_digits y) (integer_by minus (number 10 0x30 (n * 10 + (o - 0x30)) y)) NoInteger
+  grown_rest : (n o : ℕ) (y : Octets) → ended_by (Digits minus (n * 10 + (o - 0x30))) y ≡ pick (are_digits y) (integer_by minus (number 10 0x30 (n * 10 + (o - 0x30)) y)) None
+      → ended_by (grown minus n o) y ≡ pick (is_digit o && are_digits y) (integer_by minus (number 10 0x30 (n * 10 + (o - 0x30)) y)) None
   unfolding grown
   grown_rest n o y e =
       told (is_digit o)
@@ -71,13 +70,13 @@ module _ (minus : Bool) where
       (λ h. rw (le-leb n most h) e)))
       (λ d. rw d (no_word y))
 
-  digits_word : (n : ℕ) (y : Octets) → ended_by (Digits minus n) y ≡ pick (are_digits y) (integer_by minus (number 10 0x30 n y)) NoInteger
+  digits_word : (n : ℕ) (y : Octets) → ended_by (Digits minus n) y ≡ pick (are_digits y) (integer_by minus (number 10 0x30 n y)) None
   unfolding stepped_by stepped ended are_digits number
   digits_word n [] = refl
   digits_word n (o ∷ y) = grown_rest n o y (digits_word (n * 10 + (o - 0x30)) y)
 
   -- a first digit that is not 0
-  first_word : (o : ℕ) (y : Octets) → (o ≡ 0x30 → ⊥) → ended_by (grown minus 0 o) y ≡ pick (is_positive (o ∷ y)) (integer_by minus (number 10 0x30 0 (o ∷ y))) NoInteger
+  first_word : (o : ℕ) (y : Octets) → (o ≡ 0x30 → ⊥) → ended_by (grown minus 0 o) y ≡ pick (is_positive (o ∷ y)) (integer_by minus (number 10 0x30 0 (o ∷ y))) None
   unfolding is_positive number
   first_word o y h = rw (← positive) (grown_rest 0 o y (digits_word (0 * 10 + (o - 0x30)) y))
     where
@@ -100,18 +99,18 @@ plain-within : (n : ℕ) → integer_by false n ≡ within (some (pos n))
 unfolding integer_by within
 plain-within n = refl
 
-zero_within : (o : ℕ) (y : Octets) → o ≡ 0x30 → pick (is_empty y) (Integer (pos 0)) NoInteger ≡ within (pick (is_empty y) (some (pos (number 10 0x30 0 (o ∷ y)))) none)
+zero_within : (o : ℕ) (y : Octets) → o ≡ 0x30 → pick (is_empty y) (Some (pos 0)) None ≡ within (pick (is_empty y) (some (pos (number 10 0x30 0 (o ∷ y)))) none)
 unfolding is_empty within number
 zero_within o [] e = rw (e, lt-ltb 0 (half 8) half_some)
 zero_within o (b ∷ y) e = refl
 
 -- the test of a word and its integer
-by_test : (t : Bool) (z : ℤ) → pick t (within (some z)) NoInteger ≡ within (pick t (some z) none)
+by_test : (t : Bool) (z : ℤ) → pick t (within (some z)) None ≡ within (pick t (some z) none)
 unfolding within
 by_test true z = refl
 by_test false z = refl
 
-minus_word : (y : Octets) → ended_by Minus y ≡ pick (is_positive y) (integer_by true (number 10 0x30 0 y)) NoInteger
+minus_word : (y : Octets) → ended_by Minus y ≡ pick (is_positive y) (integer_by true (number 10 0x30 0 y)) None
 unfolding stepped_by stepped ended
 minus_word [] = unfold is_positive in refl
 minus_word (o ∷ y) =

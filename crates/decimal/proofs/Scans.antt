@@ -3,7 +3,7 @@
 use mathlib.Core.Path.{◌≡◌, refl, sym, ap, ◌∙◌}
 use mathlib.Core.Bool.{Bool, true, false, ◌&&◌, and-true, and-false}
 use mathlib.Core.List.{List, [], ◌∷◌, ◌++◌, append-nil}
-use mathlib.Core.Option.{Option, none, some}
+use mathlib.Core.Option.{Option as Maybe, none, some}
 use Prim.Native.Nat.{ℕ, suc, ◌+◌, ◌≤◌, ◌<◌, max}
 use native.Mathlib.Omega.{arith}
 use borrow.Author.Tests.{lt-leb, le-leb, lt-ltb, le-ltb, ne_eqb, leb-true, leb-false}
@@ -11,6 +11,7 @@ use lib.Dec.{leb, ltb, eqb}
 use lib.IntN.{ℤ}
 use lib.ListN.{length}
 use lib.Signed.{mag}
+use Rattle.std.specs.Prelude.{Option, Some, None}
 use Rattle.format.specs.Octets.{Octets}
 use Rattle.format.specs.Numbers.{pick}
 use Rattle.format.specs.Characters.{All}
@@ -18,13 +19,10 @@ use Rattle.format.specs.Integers.{half, Held, octets_of, all_octets}
 use Rattle.fields.proofs.Laws.{case}
 use Rattle.fields.proofs.Utf8.{told}
 use Rattle.decimal.specs.Words.{parse, longer, words, word_count, both, parse_all, parse_list, all_held, held_in, shape, integers_in}
-use Rattle.decimal.specs.Machine.{stepped, stepped_by, ended, width_of, more, starting, found, scanned, scanned_by, counted, least_in, by_words, ended_octets, written, held_by, fitting}
+use Rattle.decimal.specs.Machine.{stepped, stepped_by, ended, integers, width_of, more, starting, found, scanned, scanned_by, counted, least_in, by_words, ended_octets, written, held_by, fitting}
 use Rattle.decimal.specs.declared.scanning.Word.{Word}
 use Rattle.decimal.specs.declared.scanning.Word.TheVariants.{Empty}
-use Rattle.decimal.specs.declared.scanning.Ended.{Ended}
-use Rattle.decimal.specs.declared.scanning.Ended.TheVariants.{Integer, NoInteger}
-use Rattle.decimal.specs.declared.scanning.Found.{Found}
-use Rattle.decimal.specs.declared.scanning.Found.TheVariants.{Integers, NoIntegers}
+use Rattle.decimal.specs.declared.scanning.Integers.{Integers}
 use Rattle.decimal.specs.declared.scanning.Scan.{Scan}
 use Rattle.decimal.proofs.Texts.{words_some, both_some}
 use Rattle.decimal.proofs.Shapes.{half_grows, shape_integers, integers_shape}
@@ -32,16 +30,16 @@ use Rattle.decimal.proofs.Machine.{within, ended_by, word_is}
 
 -- ---- a text by its words
 
-found_in : Found → List Octets → Found
+found_in : Option Integers → List Octets → Option Integers
 found_in f [] = f
 found_in f (y ∷ ys) = found_in (more f (ended_by Empty y)) ys
 
 -- the first word goes on where the scan stands
-found_from : Scan → List Octets → Found
+found_from : Scan → List Octets → Option Integers
 found_from s [] = found s
 found_from s (y ∷ ys) = found_in (more s.before (ended_by s.word y)) ys
 
-from_start : (f : Found) (ys : List Octets) → 0 < length ys → found_from (record { word = Empty; before = f }) ys ≡ found_in f ys
+from_start : (f : Option Integers) (ys : List Octets) → 0 < length ys → found_from (record { word = Empty; before = f }) ys ≡ found_in f ys
 unfolding found_from found_in
 from_start f [] h = absurd (omega arith)
 from_start f (y ∷ ys) h = refl
@@ -67,7 +65,7 @@ data Rung : ℕ → Type 0 where
   eight : Rung 8
   sixteen : Rung 16
 
-needed : Option ℤ → ℕ
+needed : Maybe ℤ → ℕ
 needed none = 16
 needed (some z) = pick (ltb (mag z) (half 8)) (width_of z) 16
 
@@ -100,7 +98,7 @@ module _ (z : ℤ) where
   unfolding needed
   needed_more k = rw (le-ltb (mag z) (half 8) k)
 
-needed_rung : (r : Option ℤ) → Rung (needed r)
+needed_rung : (r : Maybe ℤ) → Rung (needed r)
 needed_rung none = unfold needed in sixteen
 needed_rung (some z) =
     sized z (λ h. rw (needed_short z h) two) (λ k h. rw (needed_int z k h) four) (λ k h. rw (needed_long z k h) eight) (λ k. rw (needed_more z k) sixteen)
@@ -122,12 +120,12 @@ width-most : (z : ℤ) → width_of z ≤ 8
 unfolding width_of
 width-most z = told (ltb (mag z) (half 2)) (λ t. rw t (omega arith)) (λ t. rw t (told (ltb (mag z) (half 4)) (λ u. rw u (omega arith)) (λ u. rw u (omega arith))))
 
-more_needed : (k w : ℕ) (r : Option ℤ) → more (Integers k w) (within r) ≡ pick (leb (needed r) 8) (Integers (k + 1) (max w (needed r))) NoIntegers
+more_needed : (k w : ℕ) (r : Maybe ℤ) → more (integers k w) (within r) ≡ pick (leb (needed r) 8) (integers (k + 1) (max w (needed r))) None
 unfolding more within needed
 more_needed k w none = refl
 more_needed k w (some z) = told (ltb (mag z) (half 8)) (λ t. rw (t, le-leb (width_of z) 8 (width-most z))) (λ t. rw t)
 
-none_in : (ys : List Octets) → found_in NoIntegers ys ≡ NoIntegers
+none_in : (ys : List Octets) → found_in None ys ≡ None
 unfolding found_in more
 none_in [] = refl
 none_in (y ∷ ys) = none_in ys
@@ -136,13 +134,13 @@ none_in (y ∷ ys) = none_in ys
 leb_max : (a b : ℕ) → a ≤ 8 → leb (max a b) 8 ≡ leb b 8
 leb_max a b h = case 8 b (λ l. lt-leb (max a b) 8 (omega arith) ∙ sym (lt-leb b 8 l)) (λ l. le-leb (max a b) 8 (omega arith) ∙ sym (le-leb b 8 l))
 
-found_in_lem : (k w : ℕ) (ys : List Octets) → 2 ≤ w → found_in (Integers k w) ys ≡ pick (leb (needed_all ys) 8) (Integers (k + length ys) (max w (needed_all ys))) NoIntegers
+found_in_lem : (k w : ℕ) (ys : List Octets) → 2 ≤ w → found_in (integers k w) ys ≡ pick (leb (needed_all ys) 8) (integers (k + length ys) (max w (needed_all ys))) None
 unfolding found_in needed_all
 found_in_lem k w [] h = let a : k + 0 ≡ k = omega arith in let b : max w 2 ≡ w = omega arith in rw (a, b)
 found_in_lem k w (y ∷ ys) h =
     let n : ℕ = needed (parse y) in
     let m : ℕ = needed_all ys in
-    ap (λ f. found_in f ys) (ap (more (Integers k w)) (word_is y) ∙ more_needed k w (parse y))
+    ap (λ f. found_in f ys) (ap (more (integers k w)) (word_is y) ∙ more_needed k w (parse y))
     ∙ told (leb n 8)
     (λ t.
     let a : k + 1 + length ys ≡ k + suc (length ys) = omega arith in
@@ -152,7 +150,7 @@ found_in_lem k w (y ∷ ys) h =
 
 -- ---- the shapes, by the width that is needed
 
-holds : (w : ℕ) → Option ℤ → Bool
+holds : (w : ℕ) → Maybe ℤ → Bool
 holds w none = false
 holds w (some z) = ltb (mag z) (half w)
 
@@ -160,7 +158,7 @@ held_more : (w : ℕ) (y : Octets) (ys : List Octets) → held_in w (parse_all (
 unfolding parse_all
 held_more w y ys = of (parse y) (parse_all ys)
   where
-    of : (r : Option ℤ) (rs : Option (List ℤ)) → held_in w (both r rs) ≡ (holds w r && held_in w rs)
+    of : (r : Maybe ℤ) (rs : Maybe (List ℤ)) → held_in w (both r rs) ≡ (holds w r && held_in w rs)
     of none rs = unfold both held_in holds in refl
     of (some z) none = unfold both held_in holds in sym (and-false (ltb (mag z) (half w)))
     of (some z) (some zs) = unfold both held_in holds all_held in refl
@@ -189,7 +187,7 @@ module _ (w : ℕ) (rung : Rung w) (most : w ≤ 8) where
       (λ h. lt-ltb (mag z) (half w) (f h) ∙ sym (le-leb n w h)))
 
   -- w octets hold just the integers that need no more
-  each : (r : Option ℤ) → holds w r ≡ leb (needed r) w
+  each : (r : Maybe ℤ) → holds w r ≡ leb (needed r) w
   each none = unfold holds needed in sym (lt-leb 16 w (omega arith))
   each (some z) =
       let b = rung_steps rung in
@@ -212,7 +210,7 @@ module _ (w : ℕ) (rung : Rung w) (most : w ≤ 8) where
 -- ---- the law
 
 least_rung : {w : ℕ} (k : ℕ) → Rung w
-    → pick (leb w 8) (Integers k (max 2 w)) NoIntegers ≡ pick (leb w 2) (Integers k 2) (pick (leb w 4) (Integers k 4) (pick (leb w 8) (Integers k 8) NoIntegers))
+    → pick (leb w 8) (integers k (max 2 w)) None ≡ pick (leb w 2) (integers k 2) (pick (leb w 4) (integers k 4) (pick (leb w 8) (integers k 8) None))
 least_rung k two = refl
 least_rung k four = refl
 least_rung k eight = refl
@@ -223,7 +221,7 @@ unfolding starting least_in word_count
 scan_finds x =
     let ys = words x in
     scan_words _ x
-    ∙ from_start (Integers 0 2) ys (words_some x)
+    ∙ from_start (integers 0 2) ys (words_some x)
     ∙ found_in_lem 0 2 ys (omega arith)
     ∙ rw (shape_needed 2 two (omega arith) x, shape_needed 4 four (omega arith) x, shape_needed 8 eight (omega arith) x)
     (let e : 0 + length ys ≡ length ys = omega arith in rw e (least_rung (length ys) (all_rung ys)))
@@ -233,14 +231,14 @@ pub counted_step : (s : Scan) (o : ℕ) → counted (scanned s o).before ≤ cou
 unfolding scanned found more
 counted_step s o = told (eqb o 0x20) (λ t. rw t (counted-more s.before (ended s.word))) (λ t. rw t (omega arith))
   where
-    counted-more : (f : Found) (e : Ended) → counted (more f e) ≤ counted f + 1
-    counted-more (Integers k w) (Integer z) = omega arith
-    counted-more (Integers k w) NoInteger = omega arith
-    counted-more NoIntegers e = omega arith
+    counted-more : (f : Option Integers) (e : Option ℤ) → counted (more f e) ≤ counted f + 1
+    counted-more (Some i) (Some z) = omega arith
+    counted-more (Some i) None = omega arith
+    counted-more None e = omega arith
 
 -- ---- octets, word by word
 
-module _ {A : Type 0} (join : A → A → A) (f : Ended → A) where
+module _ {A : Type 0} (join : A → A → A) (f : Option ℤ → A) where
   over_words : Word → List Octets → A
   over_words u [] = f (ended u)
   over_words u (y ∷ []) = f (ended_by u y)
@@ -268,7 +266,7 @@ module _ {A : Type 0} (join : A → A → A) (f : Ended → A) where
 -- ---- a text of a width's shape
 
 module _ (w : ℕ) (most : w ≤ 8) where
-  held_within : (r : Option ℤ) → held_by w (within r) ≡ holds w r
+  held_within : (r : Maybe ℤ) → held_by w (within r) ≡ holds w r
   unfolding held_by within holds
   held_within none = refl
   held_within (some z) =
@@ -340,5 +338,5 @@ module _ (w : ℕ) (u : Word) where
     unfolding fitting written
     at_octet n = (by_octet ◌&&◌ (held_by w), by_octet ◌++◌ (ended_octets w))
       where
-        by_octet : {A : Type 0} (join : A → A → A) (f : Ended → A) → by_words join f u (o ∷ x) ≡ by_words join f (stepped u o) x
+        by_octet : {A : Type 0} (join : A → A → A) (f : Option ℤ → A) → by_words join f u (o ∷ x) ≡ by_words join f (stepped u o) x
         by_octet join f = unfold by_words in rw (by_words, ne_eqb o 0x20 n)

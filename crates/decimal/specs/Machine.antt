@@ -1,5 +1,5 @@
 -- Contracts of the code, not definitions to be believed. A text's words and integers, by one octet after the other. That this finds what Words has is proofs/Scans: `scan_finds` and `written_is`.
-use Rattle.std.specs.Prelude.{ℕ, ◌+◌, ◌-◌, ◌*◌, max, Bool, true, false, ◌&&◌, [], ◌∷◌, ◌++◌, ltb, leb, eqb, ℤ, pos, neg_ℤ}
+use Rattle.std.specs.Prelude.{ℕ, ◌+◌, ◌-◌, ◌*◌, max, Bool, true, false, ◌&&◌, [], ◌∷◌, ◌++◌, ltb, leb, eqb, ℤ, pos, neg_ℤ, Option, Some, None}
 use Rattle.std.specs.Int.Signed.{mag}
 use Rattle.format.specs.Octets.{Octets}
 use Rattle.format.specs.Numbers.{pick}
@@ -7,10 +7,7 @@ use Rattle.format.specs.Integers.{half, octets_of}
 use Rattle.decimal.specs.Words.{is_digit, shape, word_count}
 use Rattle.decimal.specs.declared.scanning.Word.{Word}
 use Rattle.decimal.specs.declared.scanning.Word.TheVariants.{Empty, Minus, Zero, Digits, NoWord}
-use Rattle.decimal.specs.declared.scanning.Ended.{Ended}
-use Rattle.decimal.specs.declared.scanning.Ended.TheVariants.{Integer, NoInteger}
-use Rattle.decimal.specs.declared.scanning.Found.{Found}
-use Rattle.decimal.specs.declared.scanning.Found.TheVariants.{Integers, NoIntegers}
+use Rattle.decimal.specs.declared.scanning.Integers.{Integers}
 use Rattle.decimal.specs.declared.scanning.Scan.{Scan}
 
 -- ---- one word
@@ -34,31 +31,35 @@ stepped_by u [] = u
 stepped_by u (o ∷ y) = stepped_by (stepped u o) y
 
 -- The integer that a word is which ends here, if eight octets hold it.
-unfoldable pub integer_by : (minus : Bool) → ℕ → Ended
-integer_by true n = pick (leb n (half 8)) (Integer (neg_ℤ (pos n))) NoInteger
-integer_by false n = pick (ltb n (half 8)) (Integer (pos n)) NoInteger
+unfoldable pub integer_by : (minus : Bool) → ℕ → Option ℤ
+integer_by true n = pick (leb n (half 8)) (Some (neg_ℤ (pos n))) None
+integer_by false n = pick (ltb n (half 8)) (Some (pos n)) None
 
-unfoldable pub ended : Word → Ended
-ended Empty = NoInteger
-ended Minus = NoInteger
-ended Zero = Integer (pos 0)
+unfoldable pub ended : Word → Option ℤ
+ended Empty = None
+ended Minus = None
+ended Zero = Some (pos 0)
 ended (Digits minus n) = integer_by minus n
-ended NoWord = NoInteger
+ended NoWord = None
 
 -- ---- a text
+-- So many integers, each held by so many octets.
+abbrev pub integers : (count width : ℕ) → Option Integers
+integers k w = Some (record { count = k; width = w })
+
 -- The least of the widths 2, 4 and 8 that holds an integer; and how many were found and the least width that holds them all, with one more.
 unfoldable pub width_of : ℤ → ℕ
 width_of z = pick (ltb (mag z) (half 2)) 2 (pick (ltb (mag z) (half 4)) 4 8)
 
-unfoldable pub more : Found → Ended → Found
-more (Integers k w) (Integer z) = Integers (k + 1) (max w (width_of z))
-more (Integers k w) NoInteger = NoIntegers
-more NoIntegers e = NoIntegers
+unfoldable pub more : Option Integers → Option ℤ → Option Integers
+more (Some i) (Some z) = integers (i.count + 1) (max i.width (width_of z))
+more (Some i) None = None
+more None e = None
 
 unfoldable pub starting : Scan
-starting = record { word = Empty; before = Integers 0 2 }
+starting = record { word = Empty; before = integers 0 2 }
 
-unfoldable pub found : Scan → Found
+unfoldable pub found : Scan → Option Integers
 found s = more s.before (ended s.word)
 
 unfoldable pub scanned : Scan → (o : ℕ) → Scan
@@ -69,36 +70,36 @@ scanned_by s [] = s
 scanned_by s (o ∷ x) = scanned_by (scanned s o) x
 
 -- How many integers were found; 0 where a word is none.
-abbrev pub counted : Found → ℕ
-counted (Integers k w) = k
-counted NoIntegers = 0
+abbrev pub counted : Option Integers → ℕ
+counted (Some i) = i.count
+counted None = 0
 
 -- What is found in a whole text: the least width whose shape it has.
-unfoldable pub least_in : Octets → Found
+unfoldable pub least_in : Octets → Option Integers
 least_in x =
-    pick (shape 2 x) (Integers (word_count x) 2)
-    (pick (shape 4 x) (Integers (word_count x) 4)
-    (pick (shape 8 x) (Integers (word_count x) 8)
-    NoIntegers))
+    pick (shape 2 x) (integers (word_count x) 2)
+    (pick (shape 4 x) (integers (word_count x) 4)
+    (pick (shape 8 x) (integers (word_count x) 8)
+    None))
 
 -- ---- octets, while a text is read from a word on
 -- f of each word where it ends, joined.
-unfoldable pub by_words : {A : Type 0} → (join : A → A → A) → (f : Ended → A) → Word → Octets → A
+unfoldable pub by_words : {A : Type 0} → (join : A → A → A) → (f : Option ℤ → A) → Word → Octets → A
 by_words join f u [] = f (ended u)
 by_words join f u (o ∷ x) = pick (eqb o 0x20) (join (f (ended u)) (by_words join f Empty x)) (by_words join f (stepped u o) x)
 
 -- The octets of each integer.
-unfoldable pub ended_octets : (w : ℕ) → Ended → Octets
-ended_octets w (Integer z) = octets_of w z
-ended_octets w NoInteger = []
+unfoldable pub ended_octets : (w : ℕ) → Option ℤ → Octets
+ended_octets w (Some z) = octets_of w z
+ended_octets w None = []
 
 unfoldable pub written : (w : ℕ) → Word → Octets → Octets
 written w u x = by_words ◌++◌ (ended_octets w) u x
 
 -- Each word is an integer that w octets hold.
-unfoldable pub held_by : (w : ℕ) → Ended → Bool
-held_by w (Integer z) = ltb (mag z) (half w)
-held_by w NoInteger = false
+unfoldable pub held_by : (w : ℕ) → Option ℤ → Bool
+held_by w (Some z) = ltb (mag z) (half w)
+held_by w None = false
 
 unfoldable pub fitting : (w : ℕ) → Word → Octets → Bool
 fitting w u x = by_words ◌&&◌ (held_by w) u x

@@ -5,7 +5,7 @@ ghost use Rattle.format.specs.Forms.{width};
 ghost use Rattle.decimal.specs.Reading.{integer_of};
 ghost use Rattle.decimal.specs.Texts.{left, Good};
 
-use crate::{int_at, long_at, magnitude, short_at};
+use crate::{int_at, long_at, short_at};
 use format::StringForm;
 
 // What is left of an integer's text: the minus sign, where it is to come, and then the `count` lowest digits of `number`.
@@ -19,7 +19,7 @@ pub struct Text {
 // The powers of ten that 64 bits hold. (A match on numbers becomes a table that stands in the program; an array would be made anew for each call.)
 fn ten_to(k: u32) -> u64
     requires { k < 20 }
-    ensures { result ≡ 10 ^ k }
+    ensures { (result ≡ 10 ^ k) × (1 ≤ result) }
 {
     match k {
         0 => 1,
@@ -62,15 +62,14 @@ pub fn digit_at(n: u64, place: u32) -> u8
 }
 
 // How many digits n has.
+#[tactic(auto, using(crate::proofs::Tens::size_is))]
 fn size(n: u64) -> u32
     ensures { (result ≡ size n) × (result ≤ 20) }
 {
-    let mut k = 1;
-    while k < 20 {
+    for k in 1..20 {
         if n < ten_to(k) {
             return k;
         }
-        k += 1;
     }
     20
 }
@@ -80,7 +79,7 @@ impl Text {
     pub fn of(z: i64) -> Text
         ensures { (left result ≡ decimal z) × Good result }
     {
-        let n = magnitude(z);
+        let n = z.unsigned_abs();
         Text {
             minus: z < 0,
             number: n,
@@ -95,8 +94,8 @@ pub fn text_at(s: &[u8], at: usize, form: StringForm) -> Text
     ensures { (left result ≡ decimal (integer_of (width form) (take (width form) (drop at s.now)))) × Good result }
 {
     match form {
-        StringForm::Short => Text::of(short_at(s, at) as i64),
-        StringForm::Int => Text::of(int_at(s, at) as i64),
+        StringForm::Short => Text::of(i64::from(short_at(s, at))),
+        StringForm::Int => Text::of(i64::from(int_at(s, at))),
         StringForm::Long => Text::of(long_at(s, at)),
         _ => Text::of(0),
     }

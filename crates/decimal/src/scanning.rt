@@ -5,7 +5,7 @@ ghost use Rattle.format.specs.Forms.{width};
 ghost use Rattle.fields.specs.PutContracts.{Puts};
 ghost use Rattle.decimal.specs.Machine.{grown, stepped, integer_by, ended, width_of, more, starting, found, scanned, counted, ended_octets, held_by};
 
-use crate::{folded, minus, plus, put_int, put_long, put_short, wide};
+use crate::{put_int, put_long, put_short};
 use format::StringForm;
 
 // What was read of a word: nothing, "-", or "0"; the digits of a number that is not 0, behind a minus sign or not; or what no integer of eight octets starts with.
@@ -18,76 +18,47 @@ pub enum Word {
     NoWord,
 }
 
-// The integer that a word is, if eight octets hold it.
+// How many integers, and the least of 2, 4 and 8 octets that holds each.
 #[derive(Clone, Copy)]
-pub enum Ended {
-    Integer(i64),
-    NoInteger,
+pub struct Integers {
+    pub count: usize,
+    pub width: usize,
 }
 
-// How many integers, and the least of 2, 4 and 8 octets that holds each; or there is a word that is none.
-#[derive(Clone, Copy)]
-pub enum Found {
-    Integers(usize, usize),
-    NoIntegers,
-}
-
-// The word that is being read, and what was found before it.
+// The word that is being read, and the integers found before it, unless there was a word that is none.
 #[derive(Clone, Copy)]
 pub struct Scan {
     pub word: Word,
-    pub before: Found,
+    pub before: Option<Integers>,
 }
 
 // The greatest number behind which a digit may stand: ten times the next one is above all that eight octets hold.
 const MOST: u64 = 922_337_203_685_477_580;
 
-// Half of what eight octets count: the lowest integer without its sign, and one more than the highest.
-const HALF: u64 = 0x8000_0000_0000_0000;
-
 // A number with a digit more.
+#[tactic(auto, unfolding(crate::specs::Machine::grown, crate::specs::Words::is_digit))]
 fn grown(minus: bool, n: u64, o: u8) -> Word
     ensures { result ≡ grown minus n o }
 {
-    if o < 0x30 {
+    if !o.is_ascii_digit() || MOST < n {
         return Word::NoWord;
     }
-    if 0x39 < o {
-        return Word::NoWord;
-    }
-    if MOST < n {
-        return Word::NoWord;
-    }
-    Word::Digits(minus, n * 10 + wide(o - 0x30))
+    Word::Digits(minus, n * 10 + u64::from(o - 0x30))
 }
 
-// -n.
-fn opposite(n: u64) -> i64
-    requires { n ≤ 2 ^ 63 }
-    ensures { result ≡ neg_ℤ (pos n) }
-{
-    if n == 0 {
-        return 0;
-    }
-    minus(n - 1)
-}
-
-fn integer_by(minus: bool, n: u64) -> Ended
+// The integer n or -n, if eight octets hold it.
+#[tactic(auto, unfolding(crate::specs::Machine::integer_by, format::specs::Integers::half))]
+fn integer_by(minus: bool, n: u64) -> Option<i64>
     ensures { result ≡ integer_by minus n }
 {
     if minus {
-        if HALF < n {
-            return Ended::NoInteger;
-        }
-        return Ended::Integer(opposite(n));
+        return 0i64.checked_sub_unsigned(n);
     }
-    if HALF <= n {
-        return Ended::NoInteger;
-    }
-    Ended::Integer(plus(n))
+    i64::try_from(n).ok()
 }
 
 impl Word {
+    #[tactic(auto, unfolding(crate::specs::Machine::stepped))]
     pub fn step(self, o: u8) -> Word
         ensures { result ≡ stepped self o }
     {
@@ -107,61 +78,59 @@ impl Word {
         }
     }
 
-    pub fn ended(self) -> Ended
+    // The integer that a word is which ends here, if eight octets hold it.
+    #[tactic(auto, unfolding(crate::specs::Machine::ended))]
+    pub fn ended(self) -> Option<i64>
         ensures { result ≡ ended self }
     {
         match self {
             Word::Digits(minus, n) => integer_by(minus, n),
-            Word::Zero => Ended::Integer(0),
-            Word::Empty => Ended::NoInteger,
-            Word::Minus => Ended::NoInteger,
-            Word::NoWord => Ended::NoInteger,
+            Word::Zero => Some(0),
+            Word::Empty | Word::Minus | Word::NoWord => None,
         }
     }
 }
 
 // The least of 2, 4 and 8 octets that holds z.
+#[tactic(auto, unfolding(crate::specs::Machine::width_of, format::specs::Integers::half))]
 fn width_of(z: i64) -> usize
     ensures { result ≡ width_of z }
 {
-    let n = folded(z);
-    if n < 0x8000 {
+    if i16::try_from(z).is_ok() {
         return 2;
     }
-    if n < 0x8000_0000 {
+    if i32::try_from(z).is_ok() {
         return 4;
     }
     8
 }
 
 // With one integer more, or with a word that is none.
-fn more(before: Found, e: Ended) -> Found
+#[tactic(auto, unfolding(crate::specs::Machine::more, crate::specs::Machine::width_of))]
+fn more(before: Option<Integers>, e: Option<i64>) -> Option<Integers>
     requires { counted before < 2 ^ 63 }
     ensures { result ≡ more before e }
 {
-    let Found::Integers(k, w) = before else {
-        return Found::NoIntegers;
-    };
-    let Ended::Integer(z) = e else {
-        return Found::NoIntegers;
-    };
-    let v = width_of(z);
-    if w < v {
-        return Found::Integers(k + 1, v);
-    }
-    Found::Integers(k + 1, w)
+    let Integers { count, width } = before?;
+    let z = e?;
+    Some(Integers {
+        count: count + 1,
+        width: width.max(width_of(z)),
+    })
 }
 
 impl Scan {
+    #[tactic(auto, unfolding(crate::specs::Machine::starting))]
     pub fn start() -> Scan
         ensures { result ≡ starting }
     {
         Scan {
             word: Word::Empty,
-            before: Found::Integers(0, 2),
+            before: Some(Integers { count: 0, width: 2 }),
         }
     }
 
+    #[tactic(auto, unfolding(crate::specs::Machine::scanned, crate::specs::Machine::found))]
     pub fn step(self, o: u8) -> Scan
         requires { counted self.before < 2 ^ 63 }
         ensures { result ≡ scanned self o }
@@ -181,7 +150,8 @@ impl Scan {
     }
 
     // Where the text ends.
-    pub fn found(self) -> Found
+    #[tactic(auto, unfolding(crate::specs::Machine::found))]
+    pub fn found(self) -> Option<Integers>
         requires { counted self.before < 2 ^ 63 }
         ensures { result ≡ found self }
     {
@@ -192,6 +162,7 @@ impl Scan {
 }
 
 // The octets of an integer that is held, in a form of integers; what the output has no room for is left out, and counted.
+#[tactic(auto, unfolding(format::specs::Integers::half))]
 fn put_held(out: &mut [u8], at: usize, z: i64, form: StringForm) -> usize
     requires { (at ≤ 2 ^ 32) × Held (width form) z }
     ensures { Puts out.old at result out.new (octets_of (width form) z) }
@@ -205,12 +176,13 @@ fn put_held(out: &mut [u8], at: usize, z: i64, form: StringForm) -> usize
 }
 
 // Where a word ends: the octets of its integer, which is held.
-pub fn put_ended(out: &mut [u8], at: usize, e: Ended, form: StringForm) -> usize
+#[tactic(auto, unfolding(crate::specs::Machine::ended_octets, crate::specs::Machine::held_by))]
+pub fn put_ended(out: &mut [u8], at: usize, e: Option<i64>, form: StringForm) -> usize
     requires { (at ≤ 2 ^ 32) × (held_by (width form) e ≡ true) }
     ensures { Puts out.old at result out.new (ended_octets (width form) e) }
 {
     match e {
-        Ended::Integer(z) => put_held(out, at, z, form),
-        Ended::NoInteger => at,
+        Some(z) => put_held(out, at, z, form),
+        None => at,
     }
 }

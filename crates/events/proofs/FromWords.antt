@@ -9,6 +9,7 @@ use native.Mathlib.Nat.{add_assoc}
 use lib.Dec.{leb}
 use lib.ListN.{length, get_or, drop, length-append}
 use lib.Seq.{drop-cons, get_or-append-add}
+use Rattle.std.specs.Prelude.{Some}
 use Rattle.format.specs.declared.StringForm.TheVariants.{Utf8, Utf16, Numeric, Dates, Short, Int, Long}
 use Rattle.format.specs.Forms.{form_of}
 use Rattle.events.specs.declared.EventString.{EventString}
@@ -16,7 +17,6 @@ use Rattle.events.specs.declared.EventString.TheVariants.{Absent, Empty, Stretch
 use Rattle.events.specs.declared.Kind.{Kind}
 use Rattle.events.specs.declared.Kind.TheVariants.{Blank, Namespace, Start, Attribute, Chunk, Comment, Instruction, End}
 use Rattle.events.specs.declared.Event.{Event}
-use Rattle.events.specs.declared.words.Told.TheVariants.{Said}
 use Rattle.events.specs.Records.{blank}
 use Rattle.events.specs.Words.{kind_number, string_tag, string_place, string_size, record_words, row_words}
 use Rattle.events.specs.FromWords.{kind_of, told_by_tag, told_by, record_at, records_from, records_of, AllKinded}
@@ -56,7 +56,7 @@ from_past xs w at zero = refl
 from_past xs w at (suc n) = ap₂ ◌∷◌ (record_past xs w at) (rw add_assoc (from_past xs w (at + 14) n))
 
 -- ---- the round trip
-pub text_back : (t : EventString) → told_by (string_tag t) (string_place t) (string_size t) ≡ Said t
+pub text_back : (t : EventString) → told_by (string_tag t) (string_place t) (string_size t) ≡ Some t
 unfolding told_by told_by_tag form_of
 text_back Absent = refl
 text_back Empty = refl

@@ -9,15 +9,15 @@ use native.Mathlib.Decide.{dec_lt}
 use borrow.Author.Tests.{eq-eqb, ne_eqb}
 use lib.Dec.{eqb}
 use lib.ListN.{length, get_or, drop, drop_of_length-le}
+use Rattle.std.specs.Prelude.{Option, Some, None, is_some}
 use Rattle.format.specs.Numbers.{pick}
 use Rattle.tables.proofs.ByNumber.{by_number_lem}
+use Rattle.events.specs.declared.EventString.{EventString}
 use Rattle.events.specs.declared.Kind.{Kind}
-use Rattle.events.specs.declared.Kind.TheVariants.{Blank}
-use Rattle.events.specs.declared.words.Told.{Told}
-use Rattle.events.specs.declared.words.Told.TheVariants.{Said, Not}
+use Rattle.events.specs.declared.Kind.TheVariants.{Blank, Namespace, Start, Attribute, Chunk, Comment, Instruction, End}
 use Rattle.events.specs.Words.{kind_number}
 use Rattle.events.specs.Records.{blank}
-use Rattle.events.specs.FromWords.{kind_of, told_at, framed, record_at, records_of, is_said, begins_with}
+use Rattle.events.specs.FromWords.{kind_of, told_at, framed, record_at, records_of, begins_with}
 use Rattle.events.proofs.FromWords.{records_length, records_drop}
 use Rattle.events.proofs.WordLaws.{record_low, record_high, record_framed}
 
@@ -25,12 +25,22 @@ pub kind_number_lem : (n : ℕ) → n ≤ 7 → kind_number (kind_of n) ≡ n
 unfolding kind_of
 kind_number_lem n h = by_number_lem (λ (k : ℕ). kind_number (kind_of k) ≡ k) 0 8 (refl, (refl, (refl, (refl, (refl, (refl, (refl, (refl, tt)))))))) n (omega arith) (omega arith)
 
-framed_kind : (k : Kind) (p n l v : Told) (place : ℕ) → (framed k p n l v place).kind ≡ pick (is_said p && (is_said n && (is_said l && is_said v))) k Blank
-framed_kind k Not n l v place = refl
-framed_kind k (Said p) Not l v place = refl
-framed_kind k (Said p) (Said n) Not v place = refl
-framed_kind k (Said p) (Said n) (Said l) Not place = refl
-framed_kind k (Said p) (Said n) (Said l) (Said v) place = refl
+pub number_le : (k : Kind) → kind_number k ≤ 7
+number_le Blank = omega arith
+number_le Namespace = omega arith
+number_le Start = omega arith
+number_le Attribute = omega arith
+number_le Chunk = omega arith
+number_le Comment = omega arith
+number_le Instruction = omega arith
+number_le End = omega arith
+
+framed_kind : (k : Kind) (p n l v : Option EventString) (place : ℕ) → (framed k p n l v place).kind ≡ pick (is_some p && (is_some n && (is_some l && is_some v))) k Blank
+framed_kind k None n l v place = refl
+framed_kind k (Some p) None l v place = refl
+framed_kind k (Some p) (Some n) None v place = refl
+framed_kind k (Some p) (Some n) (Some l) None place = refl
+framed_kind k (Some p) (Some n) (Some l) (Some v) place = refl
 
 -- the number of a kind, or of Blank, which is 0
 picked : (b : Bool) (k : Kind) (number : ℕ) → 1 ≤ number → eqb (kind_number (pick b k Blank)) number ≡ b && eqb (kind_number k) number
@@ -57,13 +67,13 @@ module _ (w : List ℕ) (n number : ℕ) (low : 1 ≤ number) where
 
     kind_is : 1 ≤ get_or w (14 * n) 0 → get_or w (14 * n) 0 ≤ 7
         → (record_at w (14 * n)).kind
-        ≡ pick (is_said (told_at w (14 * n + 1)) && (is_said (told_at w (14 * n + 4)) && (is_said (told_at w (14 * n + 7)) && is_said (told_at w (14 * n + 10))))) (kind_of (get_or w (14 * n) 0)) Blank
+        ≡ pick (is_some (told_at w (14 * n + 1)) && (is_some (told_at w (14 * n + 4)) && (is_some (told_at w (14 * n + 7)) && is_some (told_at w (14 * n + 10))))) (kind_of (get_or w (14 * n) 0)) Blank
     kind_is l h =
         rw (← record_framed w (14 * n) l h)
         (framed_kind (kind_of (get_or w (14 * n) 0)) (told_at w (14 * n + 1)) (told_at w (14 * n + 4)) (told_at w (14 * n + 7)) (told_at w (14 * n + 10)) (get_or w (14 * n + 13) 0))
 
     pub same_begins : number ≤ 7 → get_or w (14 * n) 0 ≡ number
-        → (is_said (told_at w (14 * n + 1)) && (is_said (told_at w (14 * n + 4)) && (is_said (told_at w (14 * n + 7)) && is_said (told_at w (14 * n + 10))))) ≡ begins_with number (drop n (records_of w))
+        → (is_some (told_at w (14 * n + 1)) && (is_some (told_at w (14 * n + 4)) && (is_some (told_at w (14 * n + 7)) && is_some (told_at w (14 * n + 10))))) ≡ begins_with number (drop n (records_of w))
     same_begins high e =
         rw (begins_is, kind_is (omega arith) (omega arith), picked _ (kind_of (get_or w (14 * n) 0)) number low, eq-eqb _ _ (kind_number_lem _ (omega arith) ∙ e), and-true)
 

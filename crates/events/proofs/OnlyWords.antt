@@ -9,14 +9,14 @@ use native.Mathlib.Decide.{dec_lt, ℕ_discrete}
 use lib.Dec.{leb}
 use lib.ListN.{length, get_or}
 use borrow.Author.Tests.{leb-true}
+use Rattle.std.specs.Prelude.{Option, Some, None}
 use Rattle.tables.proofs.Found.{both_true}
 use Rattle.format.specs.Numbers.{pick}
 use Rattle.format.specs.Forms.{form_of}
 use Rattle.tables.proofs.ByNumber.{by_number_lem}
 use Rattle.events.specs.declared.Kind.TheVariants.{Blank}
+use Rattle.events.specs.declared.EventString.{EventString}
 use Rattle.events.specs.declared.Event.{Event}
-use Rattle.events.specs.declared.words.Told.{Told}
-use Rattle.events.specs.declared.words.Told.TheVariants.{Said, Not}
 use Rattle.events.specs.Records.{blank}
 use Rattle.events.specs.Words.{kind_number, form_tag, string_words, record_words}
 use Rattle.events.specs.FromWords.{kind_of, told_by_tag, told_by, told_at, framed, record_at, records_of}
@@ -25,9 +25,9 @@ use Rattle.events.proofs.WordLaws.{told_stretch, told_formed, told_none, told-pl
 use Rattle.events.proofs.KindLaws.{kind_number_lem}
 
 -- what is said, if anything, is said by these three words
-abbrev SaidBy : Told → (tag place size : ℕ) → Type 0
-SaidBy (Said x) tag place size = string_words x ≡ tag ∷ place ∷ size ∷ []
-SaidBy Not tag place size = Unit {0}
+abbrev SaidBy : Option EventString → (tag place size : ℕ) → Type 0
+SaidBy (Some x) tag place size = string_words x ≡ tag ∷ place ∷ size ∷ []
+SaidBy None tag place size = Unit {0}
 
 form_tag_lem : (n : ℕ) → 1 ≤ n → n ≤ 6 → form_tag (form_of n) ≡ n + 4
 unfolding form_of
@@ -58,14 +58,14 @@ said_by tag place size =
 
 module _ (number place : ℕ) (kind : kind_number (kind_of number) ≡ number) where
   -- the words of a record that has a kind, from those of its strings
-  framed-words : (p n l v : Told) (p₁ p₂ p₃ n₁ n₂ n₃ l₁ l₂ l₃ v₁ v₂ v₃ : ℕ) → SaidBy p p₁ p₂ p₃ → SaidBy n n₁ n₂ n₃ → SaidBy l l₁ l₂ l₃ → SaidBy v v₁ v₂ v₃
+  framed-words : (p n l v : Option EventString) (p₁ p₂ p₃ n₁ n₂ n₃ l₁ l₂ l₃ v₁ v₂ v₃ : ℕ) → SaidBy p p₁ p₂ p₃ → SaidBy n n₁ n₂ n₃ → SaidBy l l₁ l₂ l₃ → SaidBy v v₁ v₂ v₃
       → ((framed (kind_of number) p n l v place).kind ≡ Blank → ⊥)
       → record_words (framed (kind_of number) p n l v place) ≡ number ∷ p₁ ∷ p₂ ∷ p₃ ∷ n₁ ∷ n₂ ∷ n₃ ∷ l₁ ∷ l₂ ∷ l₃ ∷ v₁ ∷ v₂ ∷ v₃ ∷ place ∷ []
-  framed-words Not n l v p₁ p₂ p₃ n₁ n₂ n₃ l₁ l₂ l₃ v₁ v₂ v₃ a b c d q = absurd (q refl)
-  framed-words (Said p) Not l v p₁ p₂ p₃ n₁ n₂ n₃ l₁ l₂ l₃ v₁ v₂ v₃ a b c d q = absurd (q refl)
-  framed-words (Said p) (Said n) Not v p₁ p₂ p₃ n₁ n₂ n₃ l₁ l₂ l₃ v₁ v₂ v₃ a b c d q = absurd (q refl)
-  framed-words (Said p) (Said n) (Said l) Not p₁ p₂ p₃ n₁ n₂ n₃ l₁ l₂ l₃ v₁ v₂ v₃ a b c d q = absurd (q refl)
-  framed-words (Said p) (Said n) (Said l) (Said v) p₁ p₂ p₃ n₁ n₂ n₃ l₁ l₂ l₃ v₁ v₂ v₃ a b c d q = λ i. kind i ∷ a i ++ b i ++ c i ++ d i ++ (place ∷ [])
+  framed-words None n l v p₁ p₂ p₃ n₁ n₂ n₃ l₁ l₂ l₃ v₁ v₂ v₃ a b c d q = absurd (q refl)
+  framed-words (Some p) None l v p₁ p₂ p₃ n₁ n₂ n₃ l₁ l₂ l₃ v₁ v₂ v₃ a b c d q = absurd (q refl)
+  framed-words (Some p) (Some n) None v p₁ p₂ p₃ n₁ n₂ n₃ l₁ l₂ l₃ v₁ v₂ v₃ a b c d q = absurd (q refl)
+  framed-words (Some p) (Some n) (Some l) None p₁ p₂ p₃ n₁ n₂ n₃ l₁ l₂ l₃ v₁ v₂ v₃ a b c d q = absurd (q refl)
+  framed-words (Some p) (Some n) (Some l) (Some v) p₁ p₂ p₃ n₁ n₂ n₃ l₁ l₂ l₃ v₁ v₂ v₃ a b c d q = λ i. kind i ∷ a i ++ b i ++ c i ++ d i ++ (place ∷ [])
 
 module _ (w : List ℕ) (at : ℕ) where
   -- the 14 words from `at` on, as the strings take them

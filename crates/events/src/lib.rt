@@ -1,5 +1,5 @@
 // Event records as callers lend them.
-// May depend on format and tables (for specs/ and proofs/) and on walk (for proofs/).
+// May depend on format and tables (for specs/ and proofs/).
 #![tactic(auto)]
 
 pub mod kinds;
@@ -20,7 +20,8 @@ pub const RECORD: usize = 14;
 // The word of a record that has its place.
 pub const PLACE: usize = 13;
 
-// A string of an event: none; the empty one; octets of the document or text area by form, place and length; one of the two built-in strings.
+// A string of an event: none; the empty one; octets of the document or text area by form, place and length; one of the
+// two built-in strings.
 #[derive(Clone, Copy)]
 pub enum EventString {
     Absent,
@@ -30,7 +31,7 @@ pub enum EventString {
     XmlNamespace,
 }
 
-#[derive(Clone, Copy)]
+#[derive(Clone, Copy, PartialEq, Eq)]
 pub enum Kind {
     Blank,
     Namespace,
@@ -42,8 +43,9 @@ pub enum Kind {
     End,
 }
 
-// `name` is a local name or a target; `value` a value, chunk, comment or content. What a kind does not have is absent. `place` is the octet of the document at which the event was read,
-// and 0 in a record that was not read; it says nothing to a writer.
+// `name` is a local name or a target; `value` a value, chunk, comment or content. What a kind does not have is absent.
+// `place` is the octet of the document at which the event was read, and 0 in a record that was not read; it says nothing
+// to a writer.
 #[derive(Clone, Copy)]
 pub struct Event {
     pub kind: Kind,
@@ -59,21 +61,13 @@ impl Kind {
     pub fn number(self) -> u32
         ensures { result ≡ kind_number self }
     {
-        match self {
-            Kind::Blank => kinds::BLANK,
-            Kind::Namespace => kinds::NAMESPACE,
-            Kind::Start => kinds::START,
-            Kind::Attribute => kinds::ATTRIBUTE,
-            Kind::Chunk => kinds::CHUNK,
-            Kind::Comment => kinds::COMMENT,
-            Kind::Instruction => kinds::INSTRUCTION,
-            Kind::End => kinds::END,
-        }
+        self as u32
     }
 }
 
 impl EventString {
-    // Which of the five the string is, and a stretch's form. The form is asked first, so that the rest is the variant's own number and costs nothing.
+    // Which of the five the string is, and a stretch's form. The form is asked first, so that the rest is the variant's
+    // own number and costs nothing.
     pub fn tag(self) -> u32
         ensures { result ≡ string_tag self }
     {
@@ -95,13 +89,7 @@ impl EventString {
     pub fn is_absent(self) -> bool
         ensures { result ≡ eqb (string_tag self) 0 }
     {
-        match self {
-            EventString::Absent => true,
-            EventString::Empty => false,
-            EventString::Stretch(_, _, _) => false,
-            EventString::XmlPrefix => false,
-            EventString::XmlNamespace => false,
-        }
+        matches!(self, EventString::Absent)
     }
 
     // utf-8 unless the string is a stretch.
@@ -109,11 +97,8 @@ impl EventString {
         ensures { result ≡ string_form self }
     {
         match self {
-            EventString::Absent => StringForm::Utf8,
-            EventString::Empty => StringForm::Utf8,
             EventString::Stretch(form, _, _) => form,
-            EventString::XmlPrefix => StringForm::Utf8,
-            EventString::XmlNamespace => StringForm::Utf8,
+            _ => StringForm::Utf8,
         }
     }
 
@@ -122,11 +107,8 @@ impl EventString {
         ensures { result ≡ string_place self }
     {
         match self {
-            EventString::Absent => 0,
-            EventString::Empty => 0,
             EventString::Stretch(_, place, _) => place,
-            EventString::XmlPrefix => 0,
-            EventString::XmlNamespace => 0,
+            _ => 0,
         }
     }
 
@@ -135,41 +117,34 @@ impl EventString {
         ensures { result ≡ string_size self }
     {
         match self {
-            EventString::Absent => 0,
-            EventString::Empty => 0,
             EventString::Stretch(_, _, size) => size,
-            EventString::XmlPrefix => 0,
-            EventString::XmlNamespace => 0,
+            _ => 0,
         }
     }
 }
 
-// A stretch is not empty and lies in the octets. Place and size are the caller's and may be any numbers, so they are not added.
+// A stretch is not empty and lies in the octets. Place and size are the caller's and may be any numbers.
 pub fn lies_in(text: &[u8], place: u32, size: u32) -> bool
     ensures { result ≡ (ltb 0 size && leb (place + size) (length text.now)) }
 {
-    let n = size as usize;
-    if n == 0 {
-        return false;
-    }
-    if text.len() < n {
-        return false;
-    }
-    place as usize <= text.len() - n
+    0 < size && place as usize + size as usize <= text.len()
 }
 
-// The records, from their strings: `keep` gives them their place. A blank one has no kind and no strings.
+// No kind, no strings and no place.
+const BLANK: Event = Event {
+    kind: Kind::Blank,
+    prefix: EventString::Absent,
+    namespace: EventString::Absent,
+    name: EventString::Absent,
+    value: EventString::Absent,
+    place: 0,
+};
+
+// The records, from their strings: `keep` gives them their place.
 pub fn blank() -> Event
     ensures { result ≡ blank }
 {
-    Event {
-        kind: Kind::Blank,
-        prefix: EventString::Absent,
-        namespace: EventString::Absent,
-        name: EventString::Absent,
-        value: EventString::Absent,
-        place: 0,
-    }
+    BLANK
 }
 
 pub fn namespace(prefix: EventString, namespace: EventString) -> Event
@@ -179,9 +154,7 @@ pub fn namespace(prefix: EventString, namespace: EventString) -> Event
         kind: Kind::Namespace,
         prefix,
         namespace,
-        name: EventString::Absent,
-        value: EventString::Absent,
-        place: 0,
+        ..BLANK
     }
 }
 
@@ -193,8 +166,7 @@ pub fn start(prefix: EventString, namespace: EventString, name: EventString) -> 
         prefix,
         namespace,
         name,
-        value: EventString::Absent,
-        place: 0,
+        ..BLANK
     }
 }
 
@@ -212,7 +184,7 @@ pub fn attribute(
         namespace,
         name,
         value,
-        place: 0,
+        ..BLANK
     }
 }
 
@@ -221,11 +193,8 @@ pub fn chunk(value: EventString) -> Event
 {
     Event {
         kind: Kind::Chunk,
-        prefix: EventString::Absent,
-        namespace: EventString::Absent,
-        name: EventString::Absent,
         value,
-        place: 0,
+        ..BLANK
     }
 }
 
@@ -234,11 +203,8 @@ pub fn comment(value: EventString) -> Event
 {
     Event {
         kind: Kind::Comment,
-        prefix: EventString::Absent,
-        namespace: EventString::Absent,
-        name: EventString::Absent,
         value,
-        place: 0,
+        ..BLANK
     }
 }
 
@@ -247,11 +213,9 @@ pub fn instruction(name: EventString, value: EventString) -> Event
 {
     Event {
         kind: Kind::Instruction,
-        prefix: EventString::Absent,
-        namespace: EventString::Absent,
         name,
         value,
-        place: 0,
+        ..BLANK
     }
 }
 
@@ -260,11 +224,7 @@ pub fn end() -> Event
 {
     Event {
         kind: Kind::End,
-        prefix: EventString::Absent,
-        namespace: EventString::Absent,
-        name: EventString::Absent,
-        value: EventString::Absent,
-        place: 0,
+        ..BLANK
     }
 }
 
@@ -289,10 +249,7 @@ pub fn store(events: &mut [Event], i: usize, e: Event)
 pub fn blank_from(events: &mut [Event], from: usize)
     ensures { events.new ≡ take from events.old ++ replicate (length events.old - from) blank }
 {
-    let e = blank();
-    let mut i = from;
-    while i < events.len() {
-        events[i] = e;
-        i += 1;
+    if from < events.len() {
+        events[from..].fill(blank());
     }
 }

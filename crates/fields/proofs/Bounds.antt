@@ -1,17 +1,17 @@
 -- What every answer keeps to: an accepted number has its bounds and ends within the octets, a refusal stands at the field.
 -- Assumes nothing.
-use Rattle.std.proofs.Common.{◌≡◌, ℕ, ◌+◌, ◌-◌, ◌*◌, ◌%◌, ◌^◌, ◌<◌, ◌≤◌, ltb, leb, List, [], ◌∷◌, map, length, get_or, refl, arith, ltb-true, leb-true}
+use Rattle.std.proofs.Common.{◌≡◌, ℕ, ◌+◌, ◌-◌, ◌*◌, ◌%◌, ◌^◌, ◌<◌, ◌≤◌, ltb, leb, List, [], ◌∷◌, map, length, get_or, refl, Result, Ok, Err, arith, ltb-true, leb-true}
 use Rattle.format.specs.Numbers.{Form}
-use Rattle.fields.specs.declared.Cursor.{Cursor}
-use Rattle.fields.specs.declared.Number.{Number}
-use Rattle.fields.specs.declared.Number.TheVariants.{Got, Refused}
+use Rattle.format.specs.Refusals.{refusal_number}
+use Rattle.format.specs.declared.refusals.Fault.{Fault}
+use Rattle.fields.specs.declared.Read.{Read}
 use Rattle.fields.specs.Fields.{value_from, behind, Share, share, share_of, read_in, field_at}
 use Rattle.fields.proofs.Laws.{picks}
 
 module _ (top : ℕ) (s : List ℕ) (at : ℕ) where
-  abbrev Kept : ℕ → Number → Type 0
-  Kept low (Got n c) = (low ≤ n) × (n ≤ top) × (at < c.at) × (c.at ≤ length s)
-  Kept low (Refused k p) = (k ≤ 7) × (p ≡ at)
+  abbrev Kept : ℕ → Result (Read ℕ) Fault → Type 0
+  Kept low (Ok x) = (low ≤ x.value) × (x.value ≤ top) × (at < x.next) × (x.next ≤ length s)
+  Kept low (Err f) = (refusal_number f.refusal ≤ 7) × (f.at ≡ at)
 
   behind-kept : (x more low size : ℕ) → Kept low (behind s at x more low size top)
   unfolding behind
@@ -25,9 +25,9 @@ module _ (top : ℕ) (s : List ℕ) (at : ℕ) where
       (λ u. (omega arith, refl)))
       (λ t. (omega arith, refl))
 
-  lower : (low size : ℕ) (a : Number) → Kept (low + size) a → Kept low a
-  lower low size (Got n c) k = omega arith
-  lower low size (Refused r p) k = k
+  lower : (low size : ℕ) (a : Result (Read ℕ) Fault) → Kept (low + size) a → Kept low a
+  lower low size (Ok x) k = omega arith
+  lower low size (Err f) k = k
 
   read_kept : (fs : List Share) (low b : ℕ) → Kept low (read_in fs top low s at b)
   unfolding read_in
@@ -41,8 +41,8 @@ module _ (top : ℕ) (s : List ℕ) (at : ℕ) where
     unfolding field_at
     field_kept = picks (Kept 1) (ltb at (length s)) _ _ (λ t. read_kept (map share_of fs) 1 (get_or s at 0 % 2 ^ (9 - bit))) (λ t. (omega arith, refl))
 
-    pub field_got : {n : ℕ} {c : Cursor} → field_at fs top bit s at ≡ Got n c → (1 ≤ n) × (n ≤ top) × (at < c.at) × (c.at ≤ length s)
+    pub field_got : {x : Read ℕ} → field_at fs top bit s at ≡ Ok x → (1 ≤ x.value) × (x.value ≤ top) × (at < x.next) × (x.next ≤ length s)
     field_got e = rw e at field_kept
 
-    pub field_refused : {k p : ℕ} → field_at fs top bit s at ≡ Refused k p → (k ≤ 7) × (p ≡ at)
+    pub field_refused : {f : Fault} → field_at fs top bit s at ≡ Err f → (refusal_number f.refusal ≤ 7) × (f.at ≡ at)
     field_refused e = rw e at field_kept

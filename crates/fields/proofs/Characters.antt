@@ -6,7 +6,7 @@ use lib.Seq.{take-append_seam, drop-append_seam}
 use Rattle.format.specs.Characters.{Range, ◌‥◌, among, characters, IsCharacter, tail, utf8, utf8s, All, IsText}
 use Rattle.fields.specs.Utf8.{rows, fits, started_by, from_first, character, is_text}
 use Rattle.fields.proofs.Laws.{case}
-use Rattle.fields.proofs.Utf8.{told, never, both, alike, started, some_character, no_character, text_end}
+use Rattle.fields.proofs.Utf8.{told, never, both, alike, started, some_character, no_character, none_text}
 
 -- what holds of each of a list, one after the other
 infixr 20 ◌also◌
@@ -304,7 +304,7 @@ module _ (a : ℕ) where
 -- the octets of characters pass
 passes : (ns : List ℕ) → All IsCharacter ns → is_text (utf8s ns) ≡ true
 unfolding utf8s
-passes [] h = text_end [] 0 0 (omega arith)
+passes [] h = none_text
 passes (n ∷ ns) h =
     let y = utf8s ns in
     (some_character (length (utf8 n)) (utf8 n ++ y) (sym (front n y h.0)) (λ z. let l = long n in omega arith)).1

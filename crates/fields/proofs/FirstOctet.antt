@@ -3,8 +3,8 @@
 use Rattle.std.proofs.Common.{◌≡◌, ℕ, suc, ◌+◌, ◌-◌, ◌*◌, ◌/◌, ◌%◌, ◌^◌, ◌<◌, ◌≤◌, List, [], ◌∷◌, map, length, get_or, take, drop, refl, ap, mod-lt, pow-suc, arith, pow_pos, shr-shr}
 use lib.Pow.{mod-pow-add, field}
 use Rattle.format.specs.Numbers.{Form, form, behind_first}
-use Rattle.fields.specs.declared.Number.TheVariants.{Refused}
-use Rattle.fields.specs.Fields.{bits_of, behind, Share, share, share_of, field_at}
+use Rattle.format.specs.declared.refusals.Refusal.TheVariants.{Padding}
+use Rattle.fields.specs.Fields.{refused, bits_of, behind, Share, share, share_of, field_at}
 use Rattle.fields.proofs.Laws.{sizes_in, rooms_in, Roomy}
 use Rattle.fields.proofs.Forms.{share_is}
 use Rattle.fields.proofs.Cases.{field_form, field_padding}
@@ -43,15 +43,15 @@ module _ (top : ℕ) (s : List ℕ) (at : ℕ) (h : at < length s) where
     holds = rw (split (get_or s at 0) bit last ok.0 ok.1, c, r, f)
 
     pub at_form : {x low many : ℕ} → x ≡ bits_of (get_or s at 0) next 8 → low ≡ 1 + sizes_in (take k gs) → many ≡ size → x * 256 ^ more < size
-        → behind s at x more low many top ≡ field_at fs top bit s at
+        → field_at fs top bit s at ≡ behind s at x more low many top
     at_form e n m g = field_form top bit s at fs gs are h k ok.2 _ _ _ ss d _ (rw e holds) _ _ n m g
 
-    pub at_padding : size ≤ bits_of (get_or s at 0) next 8 * 256 ^ more → bits_of (get_or s at 0) next 8 < room → Refused 6 at ≡ field_at fs top bit s at
+    pub at_padding : size ≤ bits_of (get_or s at 0) next 8 * 256 ^ more → bits_of (get_or s at 0) next 8 < room → field_at fs top bit s at ≡ refused Padding at
     at_padding g j = field_padding top bit s at fs gs are h k ok.2 _ _ _ ss d _ holds g j
 
   -- the first form: 0, and the octet's other bits
   pub at_least : (bit low : ℕ) (fs : List Form) {x many : ℕ} → 1 ≤ bit → bit ≤ 8 → bits_of (get_or s at 0) bit bit ≡ 0 → x ≡ bits_of (get_or s at 0) (bit + 1) 8
-      → many ≡ 2 ^ (8 - bit) → behind s at x 0 1 many top ≡ field_at (form (0 ∷ []) 0 (8 - bit) low ∷ fs) top bit s at
+      → many ≡ 2 ^ (8 - bit) → field_at (form (0 ∷ []) 0 (8 - bit) low ∷ fs) top bit s at ≡ behind s at x 0 1 many top
   unfolding sizes_in rooms_in behind_first
   at_least bit low fs l u z e m =
       at_form bit bit 0 (form (0 ∷ []) 0 (8 - bit) low ∷ fs) _ (map share_of fs) (ap (λ (x : Share). x ∷ map share_of fs) (share_is (0 ∷ []) 0 (8 - bit) 0 (8 - bit) (omega arith) (omega arith) low))

@@ -1,15 +1,16 @@
 -- Reading what was spelled gives it back, and what reading accepts is what is spelled: once, over any list of shares.
 -- Assumes nothing.
-use Rattle.std.proofs.Common.{◌≡◌, ℕ, zero, suc, ◌+◌, ◌-◌, ◌*◌, ◌/◌, ◌%◌, ◌^◌, ◌<◌, ◌≤◌, Bool, true, false, ltb, leb, List, [], ◌∷◌, ◌++◌, length, get_or, take, drop, sym, refl, ap, ◌∙◌, ap₂, le_trans, mul-le-mul_right, div-lt_iff_lt-mul, pow-suc, div-add-mod', add-one, arith, lit<, length-append, drop-cons, ltb-false, ltb-true, le-ltb, lt-ltb, le-leb, leb-true}
+use Rattle.std.proofs.Common.{◌≡◌, ℕ, zero, suc, ◌+◌, ◌-◌, ◌*◌, ◌/◌, ◌%◌, ◌^◌, ◌<◌, ◌≤◌, Bool, true, false, ltb, leb, List, [], ◌∷◌, ◌++◌, length, get_or, take, drop, Result, Ok, sym, refl, ap, ◌∙◌, ap₂, le_trans, mul-le-mul_right, div-lt_iff_lt-mul, pow-suc, div-add-mod', add-one, arith, lit<, length-append, drop-cons, ltb-false, ltb-true, le-ltb, lt-ltb, le-leb, leb-true}
 use native.Mathlib.Nat.{div-div-eq-div-mul}
 use native.Mathlib.Decide.{dec_lt}
 use lib.Seq.{get_or-append_seam, append_snoc}
 use Rattle.format.specs.Octets.{AreOctets}
 use Rattle.format.specs.Numbers.{pick, octets}
-use Rattle.fields.specs.declared.Cursor.{Cursor}
-use Rattle.fields.specs.declared.Number.{Number}
-use Rattle.fields.specs.declared.Number.TheVariants.{Got, Refused}
-use Rattle.fields.specs.Fields.{value_from, behind, Share, share, read_in}
+use Rattle.format.specs.declared.refusals.Refusal.{Refusal}
+use Rattle.format.specs.declared.refusals.Refusal.TheVariants.{Truncated, Code, Padding, Range}
+use Rattle.format.specs.declared.refusals.Fault.{Fault}
+use Rattle.fields.specs.declared.Read.{Read}
+use Rattle.fields.specs.Fields.{got, refused, value_from, behind, Share, share, read_in}
 
 pub case : {X : Type 0} (a b : ℕ) → (a < b → X) → (b ≤ a → X) → X
 case a b f g = elim (dec_lt a b) [ yes h ↦ f h | no h ↦ g (omega arith) ]
@@ -78,7 +79,7 @@ value_octets_lem (suc m) v pre rest =
 
 behind-octets : (more size v low top first : ℕ) (pre rest : List ℕ) → v < size → low + v ≤ top
     → behind (pre ++ (first ∷ octets more v ++ rest)) (length pre) (v / 256 ^ more) more low size top
-    ≡ Got (low + v) (record { at = length pre + suc more })
+    ≡ got (low + v) (length pre + suc more)
 unfolding behind
 behind-octets more size v low top first pre rest h t =
     let s : List ℕ = pre ++ (first ∷ (octets more v ++ rest)) in
@@ -100,7 +101,7 @@ first_ge (share room more size ∷ fs) lead v h =
 
 pub read_spelled : (fs : List Share) (top low lead v : ℕ) (pre rest : List ℕ) → Roomy fs → v < sizes_in fs → low + v ≤ top
     → read_in fs top low (pre ++ (spell_in fs lead v ++ rest)) (length pre) (get_or (spell_in fs lead v) 0 0 - lead)
-    ≡ Got (low + v) (record { at = length pre + length (spell_in fs lead v) })
+    ≡ got (low + v) (length pre + length (spell_in fs lead v))
 unfolding read_in spell_in sizes_in
 read_spelled [] top low lead v pre rest ok h t = absurd (omega arith)
 read_spelled (share room more size ∷ fs) top low lead v pre rest ok h t =
@@ -138,32 +139,32 @@ octets_value (suc m) s at x h bytes =
     (q, rw (drop-cons s at 0 at<, r, ih.1))
 
 -- a test of a definition, taken apart
-pub picks : (P : Number → Type 0) (t : Bool) (a b : Number) → (t ≡ true → P a) → (t ≡ false → P b) → P (pick t a b)
+pub picks : (P : Result (Read ℕ) Fault → Type 0) (t : Bool) (a b : Result (Read ℕ) Fault) → (t ≡ true → P a) → (t ≡ false → P b) → P (pick t a b)
 picks P true a b f g = f refl
 picks P false a b f g = g refl
 
-picked : {X : Type 0} (t : Bool) (a b g : Number) → pick t a b ≡ g → (t ≡ true → a ≡ g → X) → (t ≡ false → b ≡ g → X) → X
+picked : {X : Type 0} (t : Bool) (a b g : Result (Read ℕ) Fault) → pick t a b ≡ g → (t ≡ true → a ≡ g → X) → (t ≡ false → b ≡ g → X) → X
 picked {X} t a b g e f h = picks (λ k. k ≡ g → X) t a b f h e
 
-never : {X : Type 0} (r p n : ℕ) (c : Cursor) → Refused r p ≡ Got n c → X
-never r p n c e = let z : ◌≡◌ {A = ℕ} 0 1 = cc in absurd (omega arith)
+never : {X : Type 0} (r : Refusal) (p : ℕ) (a : Read ℕ) → refused r p ≡ Ok a → X
+never r p a e = let z : ◌≡◌ {A = ℕ} 0 1 = cc in absurd (omega arith)
 
--- what was accepted at `at`, with b in the field's bits of the octet there: n is low + v, m octets follow, and all of them are how v is written
-pub record Spelled (fs : List Share) (top low lead : ℕ) (s : List ℕ) (at b n : ℕ) (c : Cursor) : Type 0 where
+-- what was accepted at `at`, with b in the field's bits of the octet there: its value is low + v, m octets follow, and all of them are how v is written
+pub record Spelled (fs : List Share) (top low lead : ℕ) (s : List ℕ) (at b : ℕ) (a : Read ℕ) : Type 0 where
   pub v : ℕ
   pub m : ℕ
-  pub is : n ≡ low + v
+  pub is : a.value ≡ low + v
   pub small : v < sizes_in fs
-  pub under : n ≤ top
+  pub under : a.value ≤ top
   pub room : at + m < length s
-  pub next : c.at ≡ at + 1 + m
+  pub next : a.next ≡ at + 1 + m
   pub written : spell_in fs lead v ≡ (lead + b) ∷ take m (drop (at + 1) s)
 
-behind_back : (more size top low : ℕ) (s : List ℕ) (at x n : ℕ) (c : Cursor) → AreOctets s
-    → behind s at x more low size top ≡ Got n c
-    → (v : ℕ) × (n ≡ low + v) × (v < size) × (n ≤ top) × (at + more < length s) × (c.at ≡ at + 1 + more) × (v / 256 ^ more ≡ x) × (octets more v ≡ take more (drop (at + 1) s))
+behind_back : (more size top low : ℕ) (s : List ℕ) (at x : ℕ) (a : Read ℕ) → AreOctets s
+    → behind s at x more low size top ≡ Ok a
+    → (v : ℕ) × (a.value ≡ low + v) × (v < size) × (a.value ≤ top) × (at + more < length s) × (a.next ≡ at + 1 + more) × (v / 256 ^ more ≡ x) × (octets more v ≡ take more (drop (at + 1) s))
 unfolding behind
-behind_back more size top low s at x n c bytes e =
+behind_back more size top low s at x a bytes e =
     let v = value_from s (at + 1) x more in
     picked (ltb (at + more) (length s)) _ _ _ e
     (λ t1 e1. picked (ltb v size) _ _ _ e1
@@ -171,31 +172,31 @@ behind_back more size top low s at x n c bytes e =
     (λ t3 e3.
     let l : at + more < length s = ltb-true _ _ t1 in
     let o = octets_value more s (at + 1) x (omega arith) bytes in
-    let en : low + v ≡ n = cc in
-    let ec : at + 1 + more ≡ c.at = ap (elim [ Got a k ↦ k.at | Refused a k ↦ 0 ]) e3 in
+    let en : low + v ≡ a.value = cc in
+    let ec : at + 1 + more ≡ a.next = cc in
     let t : low + v ≤ top = leb-true _ _ t3 in
     (v, sym en, ltb-true _ _ t2, omega arith, l, sym ec, o.0, o.1))
-    (λ t3 e3. never 7 at n c e3))
-    (λ t2 e2. never 6 at n c e2))
-    (λ t1 e1. never 2 at n c e1)
+    (λ t3 e3. never Range at a e3))
+    (λ t2 e2. never Padding at a e2))
+    (λ t1 e1. never Truncated at a e1)
 
-pub accepted : (fs : List Share) (top low lead : ℕ) (s : List ℕ) (at b n : ℕ) (c : Cursor) → AreOctets s
-    → read_in fs top low s at b ≡ Got n c → Spelled fs top low lead s at b n c
+pub accepted : (fs : List Share) (top low lead : ℕ) (s : List ℕ) (at b : ℕ) (a : Read ℕ) → AreOctets s
+    → read_in fs top low s at b ≡ Ok a → Spelled fs top low lead s at b a
 unfolding read_in spell_in sizes_in
-accepted [] top low lead s at b n c bytes e = never 5 at n c e
-accepted (share room more size ∷ fs) top low lead s at b n c bytes e =
+accepted [] top low lead s at b a bytes e = never Code at a e
+accepted (share room more size ∷ fs) top low lead s at b a bytes e =
     picked (ltb (b * 256 ^ more) size) _ _ _ e
     (λ t1 e1.
-    let t = behind_back more size top low s at b n c bytes e1 in
+    let t = behind_back more size top low s at b a bytes e1 in
     record { v = t.0; m = more; is = t.1; small = omega arith; under = t.3; room = t.4; next = t.5; written = rw (lt-ltb _ _ t.2, t.6, t.7) })
     (λ t1 e1. picked (ltb b room) _ _ _ e1
-    (λ t2 e2. never 6 at n c e2)
+    (λ t2 e2. never Padding at a e2)
     (λ t2 e2.
     let ge : room ≤ b = ltb-false _ _ t2 in
-    let i = accepted fs top (low + size) (lead + room) s at (b - room) n c bytes e2 in
+    let i = accepted fs top (low + size) (lead + room) s at (b - room) a bytes e2 in
     let iv : size + i.v - size ≡ i.v = omega arith in
     let ib : lead + room + (b - room) ≡ lead + b = omega arith in
     let no : size ≤ size + i.v = omega arith in
-    let isn : n ≡ low + size + i.v = i.is in
+    let isn : a.value ≡ low + size + i.v = i.is in
     let ism : i.v < sizes_in fs = i.small in
     record { v = size + i.v; m = i.m; is = omega arith; small = omega arith; under = i.under; room = i.room; next = i.next; written = rw (le-ltb _ _ no, iv, i.written, ib) }))

@@ -2,8 +2,8 @@
 -- Assumes nothing.
 use Rattle.std.proofs.Common.{◌≡◌, ℕ, ◌+◌, ◌-◌, ◌*◌, ◌^◌, ◌<◌, ◌≤◌, List, [], ◌∷◌, map, length, get_or, refl, arith, pow_pos}
 use Rattle.format.specs.Numbers.{lengths, behind_first, from_bits}
-use Rattle.fields.specs.declared.Number.TheVariants.{Refused}
-use Rattle.fields.specs.Fields.{bits_of, behind, Share, share, share_of, field_at}
+use Rattle.format.specs.declared.refusals.Refusal.TheVariants.{Padding}
+use Rattle.fields.specs.Fields.{refused, bits_of, behind, Share, share, share_of, field_at}
 use Rattle.fields.proofs.Laws.{case, sizes_in, rooms_in}
 use Rattle.fields.proofs.Forms.{Ordered, share_is, room_is}
 use Rattle.fields.proofs.FirstOctet.{rest_below, code_first, doubled, at_form, at_padding}
@@ -39,14 +39,14 @@ module _ (bit : ℕ) (l : 1 ≤ bit) (u : bit ≤ 7) where
 
 module _ (top : ℕ) (s : List ℕ) (at : ℕ) (h : at < length s) (bit : ℕ) (l : 1 ≤ bit) (u : bit ≤ 7) where
   module _ (e : 0 ≡ bits_of (get_or s at 0) (bit + 2) 8) where
-    pub length_middle : {low : ℕ} → bits_of (get_or s at 0) bit (bit + 1) ≡ 2 → low ≡ 1 + 2 ^ (8 - bit) → behind s at 0 1 low 256 top ≡ field_at (lengths bit) top bit s at
+    pub length_middle : {low : ℕ} → bits_of (get_or s at 0) bit (bit + 1) ≡ 2 → low ≡ 1 + 2 ^ (8 - bit) → field_at (lengths bit) top bit s at ≡ behind s at 0 1 low 256 top
     unfolding sizes_in rooms_in
     length_middle c n =
         let q = half bit u in
         at_form top s at h bit (bit + 1) 1 (lengths bit) _ _ (lengths_are bit l u) (omega arith) refl (omega arith) c (omega arith) e (omega arith) refl (omega arith)
 
     pub length_long : {low : ℕ} → (bits_of (get_or s at 0) bit bit ≡ 0 → ⊥) → (bits_of (get_or s at 0) bit (bit + 1) ≡ 2 → ⊥) → low ≡ 257 + 2 ^ (8 - bit)
-        → behind s at 0 4 low 4294967296 top ≡ field_at (lengths bit) top bit s at
+        → field_at (lengths bit) top bit s at ≡ behind s at 0 4 low 4294967296 top
     unfolding sizes_in rooms_in
     length_long z a n =
         let q = half bit u in
@@ -54,7 +54,7 @@ module _ (top : ℕ) (s : List ℕ) (at : ℕ) (h : at < length s) (bit : ℕ) (
         let c : bits_of (get_or s at 0) bit (bit + 1) ≡ 3 = omega arith in
         at_form top s at h bit (bit + 1) 2 (lengths bit) _ _ (lengths_are bit l u) (omega arith) refl (omega arith) c (omega arith) e (omega arith) refl (omega arith)
 
-  pub length_padding : (bits_of (get_or s at 0) bit bit ≡ 0 → ⊥) → (bits_of (get_or s at 0) (bit + 2) 8 ≡ 0 → ⊥) → Refused 6 at ≡ field_at (lengths bit) top bit s at
+  pub length_padding : (bits_of (get_or s at 0) bit bit ≡ 0 → ⊥) → (bits_of (get_or s at 0) (bit + 2) 8 ≡ 0 → ⊥) → field_at (lengths bit) top bit s at ≡ refused Padding at
   unfolding sizes_in rooms_in
   length_padding z n =
       let q = half bit u in

@@ -1,9 +1,9 @@
 -- What the reading of a number is, from any starting bit: a law for each way out of `Cursor::longer_number`.
 -- Assumes nothing.
-use Rattle.std.proofs.Common.{◌≡◌, ℕ, ◌+◌, ◌-◌, ◌*◌, ◌/◌, ◌%◌, ◌^◌, ◌<◌, ◌≤◌, List, [], ◌∷◌, map, length, get_or, take, drop, sym, refl, ◌∙◌, arith, pow_pos, pow-add}
+use Rattle.std.proofs.Common.{◌≡◌, ℕ, ◌+◌, ◌-◌, ◌*◌, ◌^◌, ◌<◌, ◌≤◌, List, [], ◌∷◌, map, length, get_or, take, drop, refl, arith, pow_pos, pow-add}
 use Rattle.format.specs.Numbers.{numbers, c21, c25, behind_first, from_bits}
-use Rattle.fields.specs.declared.Number.TheVariants.{Refused}
-use Rattle.fields.specs.Fields.{bits_of, behind, Share, share, share_of, field_at}
+use Rattle.format.specs.declared.refusals.Refusal.TheVariants.{Code, Padding}
+use Rattle.fields.specs.Fields.{refused, bits_of, behind, Share, share, share_of, field_at}
 use Rattle.fields.proofs.Laws.{sizes_in, rooms_in, Roomy}
 use Rattle.fields.proofs.Forms.{Ordered, share_is, room_is}
 use Rattle.fields.proofs.Cases.{field_code}
@@ -29,13 +29,6 @@ c21_are = refl
 pub c21_ordered : Ordered c21
 unfolding c21 behind_first from_bits
 c21_ordered = omega arith
-
--- behind the padding of C.21 the value starts with the octet's last four bits
-pub count_rest : (o x : ℕ) → bits_of o 2 4 ≡ 0 → x ≡ bits_of o 5 8 → x ≡ bits_of o 2 8
-count_rest o x z e =
-    let n : o / 1 ≡ o = omega arith in
-    let p : 0 + o % 16 ≡ o % 16 = omega arith in
-    e ∙ sym (rw n (rw (z, n) at (split o 2 4 (omega arith) (omega arith)) ∙ p))
 
 -- C.25
 pub c25_are : map share_of c25 ≡ share 64 0 64 ∷ share 32 1 8192 ∷ share 16 2 1048576 ∷ []
@@ -86,29 +79,29 @@ module _ (top : ℕ) (s : List ℕ) (at : ℕ) (h : at < length s) (bit : ℕ) (
   -- form k, behind a code that leaves all its values to it
   full_form : (k : ℕ) {code x low many more size : ℕ} {ss : List Share} → Roomy (take k (number_shares bit)) → drop k (number_shares bit) ≡ share (behind_code bit) more size ∷ ss
       → rooms_in (take k (number_shares bit)) ≡ code * behind_code bit → bits_of (get_or s at 0) bit (bit + 2) ≡ code → x ≡ bits_of (get_or s at 0) (bit + 3) 8
-      → low ≡ 1 + sizes_in (take k (number_shares bit)) → many ≡ size → (x < behind_code bit → x * 256 ^ more < size) → behind s at x more low many top ≡ field_at (numbers bit) top bit s at
+      → low ≡ 1 + sizes_in (take k (number_shares bit)) → many ≡ size → (x < behind_code bit → x * 256 ^ more < size) → field_at (numbers bit) top bit s at ≡ behind s at x more low many top
   full_form k ok d r c e n m f =
       at_form top s at h bit (bit + 2) k (numbers bit) _ _ (numbers_are bit l u) (omega arith, omega arith, ok) d r c (omega arith) e n m (f (rest_below (get_or s at 0) (bit + 2) (bit + 3) _ (omega arith) e))
 
   pub number_middle : {x low many : ℕ} → bits_of (get_or s at 0) bit (bit + 2) ≡ 4 → x ≡ bits_of (get_or s at 0) (bit + 3) 8
-      → low ≡ 1 + 2 ^ (8 - bit) → many ≡ 2 ^ (14 - bit) → behind s at x 1 low many top ≡ field_at (numbers bit) top bit s at
+      → low ≡ 1 + 2 ^ (8 - bit) → many ≡ 2 ^ (14 - bit) → field_at (numbers bit) top bit s at ≡ behind s at x 1 low many top
   unfolding sizes_in rooms_in
   number_middle c e n m = let q = number_values bit u in full_form 1 (omega arith) refl (omega arith) c e (omega arith) m (λ g. omega arith)
 
   pub number_long : {x low many : ℕ} → bits_of (get_or s at 0) bit (bit + 2) ≡ 5 → x ≡ bits_of (get_or s at 0) (bit + 3) 8
-      → low ≡ 1 + 2 ^ (8 - bit) + 2 ^ (14 - bit) → many ≡ 2 ^ (22 - bit) → behind s at x 2 low many top ≡ field_at (numbers bit) top bit s at
+      → low ≡ 1 + 2 ^ (8 - bit) + 2 ^ (14 - bit) → many ≡ 2 ^ (22 - bit) → field_at (numbers bit) top bit s at ≡ behind s at x 2 low many top
   unfolding sizes_in rooms_in
   number_long c e n m = let q = number_values bit u in full_form 2 (omega arith) refl (omega arith) c e (omega arith) m (λ g. omega arith)
 
   module _ (c : bits_of (get_or s at 0) bit (bit + 2) ≡ 6) where
     pub number-longest : {low : ℕ} → 0 ≡ bits_of (get_or s at 0) (bit + 3) 8 → low ≡ 1 + 2 ^ (8 - bit) + 2 ^ (14 - bit) + 2 ^ (22 - bit)
-        → behind s at 0 3 low 1048576 top ≡ field_at (numbers bit) top bit s at
+        → field_at (numbers bit) top bit s at ≡ behind s at 0 3 low 1048576 top
     unfolding sizes_in rooms_in
     number-longest e n =
         let q = number_values bit u in
         at_form top s at h bit (bit + 2) 3 (numbers bit) _ _ (numbers_are bit l u) (omega arith) refl (omega arith) c (omega arith) e (omega arith) refl (omega arith)
 
-    pub number_padding : (bits_of (get_or s at 0) (bit + 3) 8 ≡ 0 → ⊥) → Refused 6 at ≡ field_at (numbers bit) top bit s at
+    pub number_padding : (bits_of (get_or s at 0) (bit + 3) 8 ≡ 0 → ⊥) → field_at (numbers bit) top bit s at ≡ refused Padding at
     unfolding sizes_in rooms_in
     number_padding n =
         let q = number_values bit u in
@@ -116,7 +109,7 @@ module _ (top : ℕ) (s : List ℕ) (at : ℕ) (h : at < length s) (bit : ℕ) (
         at_padding top s at h bit (bit + 2) 3 (numbers bit) _ _ (numbers_are bit l u) (omega arith) refl (omega arith) c (omega arith) (omega arith) g
 
   pub number_code : (bits_of (get_or s at 0) bit bit ≡ 0 → ⊥) → (bits_of (get_or s at 0) bit (bit + 2) ≡ 4 → ⊥) → (bits_of (get_or s at 0) bit (bit + 2) ≡ 5 → ⊥)
-      → (bits_of (get_or s at 0) bit (bit + 2) ≡ 6 → ⊥) → Refused 5 at ≡ field_at (numbers bit) top bit s at
+      → (bits_of (get_or s at 0) bit (bit + 2) ≡ 6 → ⊥) → field_at (numbers bit) top bit s at ≡ refused Code at
   unfolding sizes_in rooms_in
   number_code z a b c =
       let q = number_values bit u in

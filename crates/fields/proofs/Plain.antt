@@ -1,13 +1,12 @@
 -- Which of up to eight octets are plain, from their weight: where `not_plain` has none of their high bits set, each is from 20 to 7F. By induction from the
 -- lowest octet on: below the first that is not plain nothing is borrowed.
 -- Assumes nothing.
-use Rattle.std.proofs.Common.{◌≡◌, ℕ, zero, suc, ◌+◌, ◌-◌, ◌*◌, ◌/◌, ◌%◌, ◌^◌, ◌<◌, ◌≤◌, max, true, ◌&&◌, leb, List, [], ◌∷◌, get_or, take, drop, ◌∙◌, subst, le_trans, arith, lit<, get_or-drop, get_or-take, pow_pos, pow-add, shr-shr, leb-true}
+use Rattle.std.proofs.Common.{◌≡◌, ℕ, zero, suc, ◌+◌, ◌-◌, ◌*◌, ◌/◌, ◌%◌, ◌^◌, ◌<◌, ◌≤◌, max, List, [], ◌∷◌, length, get_or, take, drop, length-take, length-drop, ◌∙◌, subst, le_trans, arith, lit<, get_or-drop, get_or-take, pow_pos, pow-add, shr-shr}
 use native.Mathlib.Decide.{dec_lt}
 use native.Mathlib.Nat.{le-min, max-le, le-max_left, min-le_left, min-le_right, zero-div}
 use lib.Arith.{bin_ind}
 use lib.Bits.{bit_and, bit_or, and_block, and_high, and_le_r, and_mod, and_step, and_zero_l, or_comm, or_step}
 use Rattle.fields.specs.WeightContracts.{weight, Small, high_bits, spaces, not_plain, Plain}
-use Rattle.fields.proofs.Utf8.{both}
 
 -- a mask leaves no more of one number than of two
 or_more : (a b h : ℕ) → bit_and a h ≤ bit_and (bit_or a b) h
@@ -170,25 +169,25 @@ module _ (x : List ℕ) where
         (λ j l m. rw (octet_high u v (j - b) h.2, octet_of b 4 v j k.0 k.1 l m) at (p (4 + (j - b)) (omega arith))),
       )
 
-  -- no octet is below one that is plain or above one that is
-  pub between_plain : (low high from to : ℕ) → ((j : ℕ) → from ≤ j → j < to → (low ≤ get_or x j 0) × (get_or x j 0 ≤ high))
-      → (leb 0x20 low && leb low 0x7F) ≡ true → (leb 0x20 high && leb high 0x7F) ≡ true → Plain x from to
-  between_plain low high from to p e f j l h =
-      let b = p j l h in
-      let u : 0x20 ≤ low = leb-true 0x20 low (both (leb 0x20 low) (leb low 0x7F) e).0 in
-      let v : high ≤ 0x7F = leb-true high 0x7F (both (leb 0x20 high) (leb high 0x7F) f).1 in
-      (omega arith, omega arith)
-
 -- ---- of a stretch
 
 -- the octet at j is plain
 abbrev pub At : List ℕ → ℕ → Type 0
 At x j = (0x20 ≤ get_or x j 0) × (get_or x j 0 ≤ 0x7F)
 
--- a stretch that is longer by one octet, or by another stretch
+-- a stretch that is longer by another stretch
 module _ (P : ℕ → Type 0) (a b : ℕ) (p : (j : ℕ) → a ≤ j → j < b → P j) where
-  pub one_more_lem : P b → (j : ℕ) → a ≤ j → j < b + 1 → P j
-  one_more_lem q j l h = elim (dec_lt j b) [ yes k ↦ p j l k | no k ↦ subst P (let e : b ≡ j = omega arith in e) q ]
-
   pub joined : (c d : ℕ) → ((j : ℕ) → c ≤ j → j < d → P j) → c ≤ b → (j : ℕ) → a ≤ j → j < d → P j
   joined c d q m j l h = elim (dec_lt j b) [ yes k ↦ p j l k | no k ↦ q j (omega arith) h ]
+
+-- two stretches from 0 and from `second` on, each of `half` octets, that overlap
+pub two_stretches : (P : ℕ → Type 0) (half second : ℕ) → ((j : ℕ) → j < half → P j) → ((j : ℕ) → j < half → P (second + j)) → second ≤ half → (j : ℕ) → j < second + half → P j
+two_stretches P half second p q h j l = elim (dec_lt j half) [ yes k ↦ p j k | no k ↦ subst P (let e : second + (j - second) ≡ j = omega arith in e) (q (j - second) (omega arith)) ]
+
+-- what is plain as a part is plain where it stands
+pub part_plain : (x : List ℕ) (from to : ℕ) → to ≤ length x → Plain (take (to - from) (drop from x)) 0 (length (take (to - from) (drop from x))) → Plain x from to
+part_plain x from to l p j m h =
+    let e : from + (j - from) ≡ j = omega arith in
+    let i : j - from < to - from = omega arith in
+    let n : length (take (to - from) (drop from x)) ≡ to - from = simp (length-take, length-drop) (omega arith) in
+    rw (get_or-take (to - from) (drop from x) (j - from) 0 i, get_or-drop from x (j - from) 0, e) at (p (j - from) (omega arith) (omega arith))

@@ -4,8 +4,7 @@ use Rattle.std.proofs.Common.{◌≡◌, ℕ, ◌+◌, ◌-◌, ◌*◌, ◌%◌
 use lib.Seq.{get_or-append_seam}
 use lib.Pow.{low}
 use Rattle.format.specs.Numbers.{Form, spell, sizes}
-use Rattle.fields.specs.declared.Number.TheVariants.{Got}
-use Rattle.fields.specs.Fields.{Share, share, field_at}
+use Rattle.fields.specs.Fields.{got, Share, share, field_at}
 use Rattle.fields.proofs.Laws.{case, sizes_in, rooms_in, Roomy, spell_in, in_room, first_ge, read_spelled}
 use Rattle.fields.proofs.Forms.{shares, rooms, Ordered, ordered_roomy, sizes_are, spell_is}
 
@@ -41,7 +40,7 @@ get_d_after pre (x ∷ w) rest h = get_or-append_seam pre x (w ++ rest) 0
 -- a number, spelled behind the bits `lead`, is read back, whatever stands before and behind
 pub field_write : (fs : List Form) (top bit lead n : ℕ) (pre rest : List ℕ) → Ordered fs → rooms fs ≤ 2 ^ (9 - bit) → 1 ≤ n → n ≤ sizes fs → n ≤ top
     → field_at fs top bit (pre ++ (spell fs (lead * 2 ^ (9 - bit)) n ++ rest)) (length pre)
-    ≡ Got n (record { at = length pre + length (spell fs (lead * 2 ^ (9 - bit)) n) })
+    ≡ got n (length pre + length (spell fs (lead * 2 ^ (9 - bit)) n))
 unfolding field_at
 field_write fs top bit lead n pre rest ok r p h t =
     let values : ℕ = 2 ^ (9 - bit) in

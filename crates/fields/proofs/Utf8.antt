@@ -1,13 +1,13 @@
 -- The rows of the table that an octet starts; the octets of one character; and those of a part, octet by octet and character by character.
 -- Assumes nothing.
-use Rattle.std.proofs.Common.{◌≡◌, ℕ, zero, suc, ◌+◌, ◌-◌, ◌*◌, ◌<◌, ◌≤◌, Bool, true, false, ◌&&◌, ◌||◌, ltb, leb, List, [], ◌∷◌, ◌++◌, length, get_or, take, drop, sym, refl, ap, ◌∙◌, true≢false, append-nil, add-one, arith, length-drop, take-append-drop, length-take, drop-cons, drop-drop, ltb-true, le-ltb, ne_eqb, le-leb}
+use Rattle.std.proofs.Common.{◌≡◌, ℕ, zero, suc, ◌+◌, ◌-◌, ◌*◌, ◌<◌, ◌≤◌, Bool, true, false, ◌&&◌, ◌||◌, ltb, leb, List, [], ◌∷◌, ◌++◌, length, get_or, take, drop, sym, refl, ap, ◌∙◌, true≢false, append-nil, add-one, arith, length-drop, take-append-drop, length-take, take_all, drop-cons, get_or-take, get_or-drop, Some, None, ltb-true, le-ltb, ne_eqb, le-leb}
 use mathlib.Core.Bool.{and-false, or-true}
 use borrow.Author.Tests.{lt-leb}
 use lib.Seq.{take-nil}
 use Rattle.format.specs.Numbers.{pick}
 use Rattle.format.specs.Characters.{Range, ◌‥◌}
 use Rattle.format.specs.Tables.{xml_prefix, xml_namespace}
-use Rattle.fields.specs.Utf8.{rows, fits, started_by, from_first, character, text_behind, is_text, alone, ranges, each, Holds, by_rows}
+use Rattle.fields.specs.Utf8.{rows, fits, started_by, from_first, character, text_behind, is_text, alone, ranges, each, Holds, by_rows, counted}
 use Rattle.fields.specs.WeightContracts.{Plain, Alone}
 use Rattle.fields.proofs.Laws.{case}
 
@@ -38,13 +38,6 @@ unfolding from_first
 first_long [] x = omega arith
 first_long (r ∷ rs) x = told (fits r x) (λ e. let l = fits_long r x e in rw e (omega arith)) (λ e. rw e (first_long rs x))
 
-fits-take : (r : List Range) (m : ℕ) (x : List ℕ) → length r ≤ m → fits r (take m x) ≡ fits r x
-unfolding fits
-fits-take [] m x h = refl
-fits-take (r ∷ rs) zero x h = absurd (omega arith)
-fits-take (r ∷ rs) (suc m) [] h = refl
-fits-take (a ‥ z ∷ rs) (suc m) (b ∷ x) h = ap (λ t. (leb a b && leb b z) && t) (fits-take rs m x (omega arith))
-
 -- ---- rows of the code's table
 
 length-ranges : (k n : ℕ) (row : List ℕ) → length (ranges k n row) ≡ n
@@ -52,32 +45,26 @@ unfolding ranges
 length-ranges k zero row = refl
 length-ranges k (suc n) row = ap suc (length-ranges (suc k) n row)
 
--- octet i is tested by range k of n, and those behind it by those behind it
-pub range_next : (row x : List ℕ) (k n i j : ℕ) (t : Bool) → k < n → i < length x → j ≡ i + 1
-    → t ≡ (leb (get_or row (2 * k) 0) (get_or x i 0) && leb (get_or x i 0) (get_or row (2 * k + 1) 0))
-    → fits (ranges k (n - k) row) (drop i x) ≡ (t && fits (ranges (k + 1) (n - (k + 1)) row) (drop j x))
+-- octet k is tested by range k of n, and those behind it by those behind it
+pub range_next : (row x : List ℕ) (k n : ℕ) → k < n → n ≤ length x → fits (ranges k (n - k) row) (drop k x)
+    ≡ ((leb (get_or row (2 * k) 0) (get_or x k 0) && leb (get_or x k 0) (get_or row (2 * k + 1) 0)) && fits (ranges (k + 1) (n - (k + 1)) row) (drop (k + 1) x))
 unfolding ranges fits
-range_next row x k n i j t h l f e = let m : n - k ≡ suc (n - (k + 1)) = omega arith in rw (m, drop-cons x i 0 l, f, add-one i, add-one k, e)
+range_next row x k n h l = let m : n - k ≡ suc (n - (k + 1)) = omega arith in let i : k < length x = omega arith in rw (m, drop-cons x k 0 i, add-one k)
 
 pub no_ranges : (row x : List ℕ) (k n : ℕ) → n ≤ k → fits (ranges k (n - k) row) x ≡ true
 unfolding ranges fits
 no_ranges row x k n h = let m : n - k ≡ 0 = omega arith in rw m
 
-pub no_row : (n : ℕ) (rs : List (List ℕ)) (x : List ℕ) → length x < n → 0 ≡ by_rows n rs x
+pub no_row : (n : ℕ) (rs : List (List ℕ)) (x : List ℕ) → length x < n → by_rows n rs x ≡ 0
 unfolding by_rows
 no_row n [] x h = refl
 no_row n (row ∷ rs) x h =
     told (fits (ranges 0 n row) x) (λ e. absurd (let l = fits_long _ _ e in omega (arith, length-ranges 0 n row))) (λ e. rw e (no_row n rs x h))
 
-part_next : {A : Type 0} (s : List A) (d : A) (to i : ℕ) → i < to → to ≤ length s → take (to - i) (drop i s) ≡ get_or s i d ∷ take (to - (i + 1)) (drop (i + 1) s)
-part_next s d to i h l = let m : to - i ≡ suc (to - (i + 1)) = omega arith in rw (m, drop-cons s i d (omega arith), add-one i)
-
-pub row_next : (n : ℕ) (rows : List (List ℕ)) (d : List ℕ) (end r m : ℕ) (x : List ℕ) (t : Bool) → r < end → end ≤ length rows → n ≤ m
-    → t ≡ fits (ranges 0 n (get_or rows r d)) x → by_rows n (take (end - r) (drop r rows)) (take m x) ≡ pick t n (by_rows n (take (end - (r + 1)) (drop (r + 1) rows)) (take m x))
+pub row_next : (n : ℕ) (rows : List (List ℕ)) (d : List ℕ) (r : ℕ) (x : List ℕ) → r < length rows
+    → by_rows n (drop r rows) x ≡ pick (fits (ranges 0 n (get_or rows r d)) x) n (by_rows n (drop (r + 1) rows) x)
 unfolding by_rows
-row_next n rows d end r m x t h l k e =
-    let row = ranges 0 n (get_or rows r d) in
-    rw (part_next rows d end r h l, fits-take row m x (omega (arith, length-ranges 0 n (get_or rows r d))), e)
+row_next n rows d r x h = rw (drop-cons rows r d h, add-one r)
 
 -- ---- rows that an octet starts
 
@@ -178,18 +165,18 @@ no_second b ([] ∷ rs) t = never t
 no_second b ((r ∷ []) ∷ rs) t = never t
 no_second b ((a ‥ z ∷ q ∷ l) ∷ rs) t = told (leb a b && leb b z) (λ e. rw e (no_second b rs t)) (λ e. rw e (no_second b rs t))
 
-pub alone_single : (b : ℕ) → single b ≡ alone b
+pub alone_single : (b : ℕ) → alone b ≡ single b
 unfolding alone
 alone_single b = rw (by_single b [], no_second b (drop 3 rows) (unfold twos rows in refl)) (told (single b) (λ e. rw e) (λ e. rw e))
 
-pub plain-alone : (b : ℕ) → 0x20 ≤ b → b ≤ 0x7F → alone b ≡ true
+pub alone_plain : (b : ℕ) → 0x20 ≤ b → b ≤ 0x7F → alone b ≡ true
 unfolding single
-plain-alone b l h =
+alone_plain b l h =
     let t : (leb 0x20 b && leb b 0x7F) ≡ true = rw (le-leb 0x20 b l, le-leb b 0x7F h) in
-    sym (alone_single b) ∙ rw (t, or-true (leb 0x0D b && leb b 0x0D)) (or-true (leb 0x09 b && leb b 0x0A))
+    alone_single b ∙ rw (t, or-true (leb 0x0D b && leb b 0x0D)) (or-true (leb 0x09 b && leb b 0x0A))
 
 alone-character : (b : ℕ) (x : List ℕ) → alone b ≡ true → 1 ≡ character (b ∷ x)
-alone-character b x e = let s = alone_single b ∙ e in sym (by_single b x ∙ rw s)
+alone-character b x e = let s = sym (alone_single b) ∙ e in sym (by_single b x ∙ rw s)
 
 -- ---- one character
 
@@ -219,7 +206,58 @@ pub no_character : (b : ℕ) (x : List ℕ) → 0 ≡ character (b ∷ x) → is
 unfolding is_text text_behind
 no_character b x e = rw (← e)
 
--- ---- the octets of a part
+-- its first octet is one from lo to hi, with which the rows of the table from `first` to before `end` start, and no others
+pub by_group : (x : List ℕ) → 0 < length x → (t : List (List ℕ)) (n first end lo hi : ℕ) → Holds t (suc n) first end → apart lo hi (take first rows) ≡ true
+    → apart lo hi (drop (end - first) (drop first rows)) ≡ true → lo ≤ get_or x 0 0 → get_or x 0 0 ≤ hi → by_rows (suc n) (take (end - first) (drop first t)) x ≡ character x
+unfolding character Holds
+by_group [] h t n first end lo hi k f g p q = absurd (omega arith)
+by_group (b ∷ x) h t n first end lo hi k f g p q =
+    let ps = take first rows in
+    let rs = take (end - first) (drop first rows) in
+    let qs = drop (end - first) (drop first rows) in
+    let w : ps ++ (rs ++ qs) ≡ rows = ap (λ l. ps ++ l) (take-append-drop (end - first) (drop first rows)) ∙ take-append-drop first rows in
+    let o : started_by b rows ≡ started_by b rs = ap (started_by b) (sym w) ∙ between b lo hi p q ps rs qs f g in
+    rw (o, ← k, by_each n (take (end - first) (drop first t)) b x)
+
+-- ---- text, character by character
+
+-- what the code found of the first character
+module _ (x : List ℕ) where
+  pub text_next : (n : ℕ) → Some n ≡ counted (character x) → (1 ≤ n) × (n ≤ length x) × (is_text x ≡ is_text (take (length x - n) (drop n x)))
+  text_next n e = of (character x) refl e
+    where
+      of : (m : ℕ) → m ≡ character x → Some n ≡ counted m → (1 ≤ n) × (n ≤ length x) × (is_text x ≡ is_text (take (length x - n) (drop n x)))
+      of zero f g = cc
+      of (suc m) f g =
+          let h : suc m ≡ n = cc in
+          let c = some_character (suc m) x f (λ z. omega arith) in
+          let t : take (length x - n) (drop n x) ≡ drop n x = take_all (length x - n) (drop n x) (omega (arith, length-drop n x)) in
+          rw t (rw (← h) (omega arith, c.0, c.1))
+
+  pub text_none : 0 < length x → None ≡ counted (character x) → is_text x ≡ false
+  text_none h e = of x h (character x) refl e
+    where
+      of : (x : List ℕ) → 0 < length x → (m : ℕ) → m ≡ character x → None ≡ counted m → is_text x ≡ false
+      of [] h m f g = absurd (omega arith)
+      of (b ∷ x) h zero f g = no_character b x f
+      of (b ∷ x) h (suc m) f g = cc
+
+-- no octets
+pub none_text : is_text [] ≡ true
+unfolding is_text text_behind
+none_text = refl
+
+-- each octet is a character by itself
+pub alone_text : (x : List ℕ) → Alone x → is_text x ≡ true
+alone_text [] f = none_text
+alone_text (b ∷ x) f = (some_character 1 (b ∷ x) (alone-character b x (f 0 (omega arith))) (λ z. omega arith)).1 ∙ alone_text x (λ j h. f (suc j) (omega arith))
+
+pub plain_text : (x : List ℕ) (from to : ℕ) → to ≤ length x → Plain x from to → true ≡ is_text (take (to - from) (drop from x))
+plain_text x from to l f =
+    sym (alone_text (take (to - from) (drop from x)) (λ j h.
+    let k : j < to - from = omega (arith, length-take (to - from) (drop from x)) in
+    let p = f (from + j) (omega arith) (omega arith) in
+    rw (get_or-take (to - from) (drop from x) j 0 k, get_or-drop from x j 0) (alone_plain (get_or x (from + j) 0) p.0 p.1)))
 
 pub drop-take : (n m : ℕ) (l : List ℕ) → drop n (take m l) ≡ take (m - n) (drop n l)
 drop-take zero m l = let e : m - 0 ≡ m = omega arith in rw e
@@ -227,65 +265,7 @@ drop-take (suc n) zero l = let e : 0 - suc n ≡ 0 = omega arith in rw e
 drop-take (suc n) (suc m) [] = sym (take-nil (suc m - suc n))
 drop-take (suc n) (suc m) (x ∷ xs) = let e : suc m - suc n ≡ m - n = omega arith in rw e (drop-take n m xs)
 
-module _ (s : List ℕ) (to : ℕ) where
-  -- the octets from i on
-  abbrev rest : ℕ → List ℕ
-  rest i = take (to - i) (drop i s)
-
-  module _ (i : ℕ) (h : i < to) (l : to ≤ length s) where
-    part : rest i ≡ get_or s i 0 ∷ rest (i + 1)
-    part = part_next s 0 to i h l
-
-    -- the first octet is one from lo to hi, with which the rows of the table from `first` to before `end` start, and no others
-    pub by_group : (t : List (List ℕ)) (r n first end lo hi : ℕ) → r ≡ by_rows (suc n) (take (end - first) (drop first t)) (rest i) → Holds t (suc n) first end
-        → apart lo hi (take first rows) ≡ true → apart lo hi (drop (end - first) (drop first rows)) ≡ true → lo ≤ get_or s i 0 → get_or s i 0 ≤ hi → r ≡ character (rest i)
-    unfolding character Holds
-    by_group t r n first end lo hi e k f g p q =
-        let b = get_or s i 0 in
-        let ps = take first rows in
-        let rs = take (end - first) (drop first rows) in
-        let qs = drop (end - first) (drop first rows) in
-        let w : ps ++ (rs ++ qs) ≡ rows = ap (λ l. ps ++ l) (take-append-drop (end - first) (drop first rows)) ∙ take-append-drop first rows in
-        let o : started_by b rows ≡ started_by b rs = ap (started_by b) (sym w) ∙ between b lo hi p q ps rs qs f g in
-        rw part (rw (o, ← k, by_each n (take (end - first) (drop first t)) b (rest (i + 1))) (rw part at e))
-
-    pub text_character : (n : ℕ) → n ≡ character (rest i) → (n ≡ 0 → ⊥) → (i + n ≤ to) × (is_text (rest i) ≡ is_text (rest (i + n)))
-    text_character n e z =
-        let c = some_character n (rest i) e z in
-        let m = rw (length-take (to - i) (drop i s), length-drop i s) at c.0 in
-        let d : to - i - n ≡ to - (i + n) = omega arith in
-        (omega arith, rw (← d, ← drop-drop n i s, ← drop-take n (to - i) (drop i s)) c.1)
-
-    pub text_none : 0 ≡ character (rest i) → is_text (rest i) ≡ false
-    text_none e = rw part (no_character _ _ (rw part at e))
-
-    text_alone : alone (get_or s i 0) ≡ true → is_text (rest i) ≡ is_text (rest (i + 1))
-    text_alone e = (text_character 1 (rw part (alone-character _ _ e)) (λ z. omega arith)).1
-
-  pub text_end : (i : ℕ) → to ≤ i → is_text (rest i) ≡ true
-  unfolding is_text text_behind
-  text_end i h = let m : to - i ≡ 0 = omega arith in rw m
-
--- n octets, each a character by itself
-alones : (n : ℕ) (x : List ℕ) (from to : ℕ) → to - from ≡ n → to ≤ length x → Alone x from to → is_text (take (to - from) (drop from x)) ≡ true
-alones zero x from to e l f = text_end x to from (omega arith)
-alones (suc n) x from to e l f =
-    text_alone x to from (omega arith) l (f from (omega arith) (omega arith)) ∙ alones n x (from + 1) to (omega arith) l (λ j h k. f j (omega arith) k)
-
-pub alone_text : (x : List ℕ) (from to : ℕ) → to ≤ length x → Alone x from to → true ≡ is_text (take (to - from) (drop from x))
-alone_text x from to l f = sym (alones (to - from) x from to refl l f)
-
-pub plain_alones : (x : List ℕ) (from to : ℕ) → Plain x from to → Alone x from to
-plain_alones x from to f j l h = let p = f j l h in plain-alone (get_or x j 0) p.0 p.1
-
-pub plain_text : (x : List ℕ) (from to : ℕ) → to ≤ length x → Plain x from to → true ≡ is_text (take (to - from) (drop from x))
-plain_text x from to l f = alone_text x from to l (plain_alones x from to f)
-
 -- ---- strings that are always there
-pub none_text : is_text [] ≡ true
-unfolding is_text text_behind
-none_text = refl
-
 pub built_in_texts : (is_text xml_prefix ≡ true) × (is_text xml_namespace ≡ true)
 unfolding xml_prefix xml_namespace is_text text_behind character from_first started_by fits rows
 built_in_texts = (refl, refl)

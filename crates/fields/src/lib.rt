@@ -1,14 +1,16 @@
-// One field of a document at a time: numbers and lengths read by a cursor, with an enum for the answer, or put into an output; text; and eight octets as one number.
+// One field of a document at a time: numbers and lengths read by a cursor, or put into an output; text; and eight octets as one number.
 // May depend on format alone.
 #![tactic(auto)]
 
 pub mod put;
 
-ghost use Rattle.std.specs.Prelude.{◌≡◌, ℕ, ◌+◌, ◌-◌, ◌*◌, ◌/◌, ◌^◌, ◌<◌, ◌≤◌, true, ◌&&◌, length, take, drop, ◌≢◌, bit_and, nat_le, slice_index, slice_range};
+ghost use Rattle.std.specs.Prelude.{◌≡◌, ℕ, ◌+◌, ◌-◌, ◌*◌, ◌/◌, ◌^◌, ◌<◌, ◌≤◌, true, ◌&&◌, length, take, drop, ◌≢◌, bit_and, nat_le, slice_index, slice_range, EachIndex};
 ghost use Rattle.format.specs.Numbers.{lengths, numbers, c21, c25, top};
 ghost use Rattle.fields.specs.Fields.{bits_of, value_from, behind, field_at, no_top};
 ghost use Rattle.fields.specs.WeightContracts.{weight, Small, high_bits, not_plain, Plain, Alone};
-ghost use Rattle.fields.specs.Utf8.{alone, fits, ranges, Holds, by_rows, character, is_text};
+ghost use Rattle.fields.specs.Utf8.{alone, fits, ranges, Holds, by_rows, character, counted, is_text};
+
+use format::refusals::{Fault, Refusal};
 
 // The link's version: the octets before the body, which are E0 00 (12.6), version 1 (12.7, 12.9) and no optional part (12.8); where the body starts; octets of the longest document.
 pub const HEADER: [u8; 5] = [0xE0, 0x00, 0x00, 0x01, 0x00];
@@ -32,12 +34,15 @@ pub struct Cursor {
     pub at: usize,
 }
 
-// A number or a length and the cursor behind it, or the refusal and its place.
+// What was read, and where the next field starts.
 #[derive(Clone, Copy)]
-pub enum Number {
-    Got(u64, Cursor),
-    Refused(u32, usize),
+pub struct Read<T> {
+    pub value: T,
+    pub next: usize,
 }
+
+// What was read, or the refusal and its place.
+pub type Reading<T> = Result<Read<T>, Fault>;
 
 // Bits `first` to `last` of an octet, bit 1 the highest: at most seven of them, and none where `last` stands before `first`.
 pub fn bits(o: u8, first: u32, last: u32) -> u8
@@ -48,8 +53,6 @@ pub fn bits(o: u8, first: u32, last: u32) -> u8
 }
 
 // How many values k bits have.
-use format::refusals::{CODE, PADDING, RANGE, TRUNCATED};
-
 fn values(k: u32) -> u64
     requires { k ≤ 32 }
     ensures { (result ≡ 2 ^ k) × (result ≤ 2 ^ 32) }
@@ -57,53 +60,50 @@ fn values(k: u32) -> u64
     1u64 << k
 }
 
-fn wide(x: u8) -> u64
-    ensures { (result ≡ x) × (result < 256) }
-{
-    x as u64
-}
-
 // The value that x and then the `more` octets from `at` spell, the higher first.
 pub fn value_from(s: &[u8], at: usize, x: u8, more: usize) -> u64
     requires { (more ≤ 4) × (at + more ≤ length s.now) }
     ensures { (result ≡ value_from s.now at x more) × (result < 2 ^ 40) }
 {
-    let mut v = wide(x);
-    let mut i = 0;
-    while i < more {
-        v = v * 256 + wide(s[at + i]);
-        i += 1;
+    let mut v = u64::from(x);
+    for o in &s[at..at + more] {
+        v = v * 256 + u64::from(*o);
     }
     v
 }
 
 impl Cursor {
     // The octets behind the field's first one, which holds x of the value. The form spells `size` numbers from `low` on.
-    fn behind(self, s: &[u8], x: u8, more: usize, low: u64, size: u64, top: u64) -> Number
+    #[tactic(auto, unfolding(crate::specs::Fields::behind))]
+    fn behind(self, s: &[u8], x: u8, more: usize, low: u64, size: u64, top: u64) -> Reading<u64>
         requires { (more ≤ 4) × (self.at < length s.now) × (low < 2 ^ 40) }
         ensures { result ≡ behind s.now self.at x more low size top }
     {
         let at = self.at;
         if s.len() - at <= more {
-            return Number::Refused(TRUNCATED, at);
+            return Err(Refusal::Truncated.at(at));
         }
         let v = value_from(s, at + 1, x, more);
         if size <= v {
-            return Number::Refused(PADDING, at);
+            return Err(Refusal::Padding.at(at));
         }
         if top < low + v {
-            return Number::Refused(RANGE, at);
+            return Err(Refusal::Range.at(at));
         }
-        Number::Got(low + v, Cursor { at: at + 1 + more })
+        Ok(Read {
+            value: low + v,
+            next: at + 1 + more,
+        })
     }
 
     // C.25: a number from bit 2, coded 0, 10 or 110.
-    pub fn number_at_bit_2(self, s: &[u8]) -> Number
+    #[tactic(auto, unfolding(crate::specs::Fields::field_at, crate::specs::Fields::read_in, crate::specs::Fields::share_of, format::specs::Numbers::behind_first, format::specs::Numbers::c25))]
+    pub fn number_at_bit_2(self, s: &[u8]) -> Reading<u64>
         ensures { result ≡ field_at c25 top 2 s.now self.at }
     {
         let at = self.at;
         if s.len() <= at {
-            return Number::Refused(TRUNCATED, at);
+            return Err(Refusal::Truncated.at(at));
         }
         let o = s[at];
         if bits(o, 2, 2) == 0 {
@@ -115,41 +115,28 @@ impl Cursor {
         if bits(o, 2, 4) == 6 {
             return self.behind(s, bits(o, 5, 8), 2, 8257, 1048576, TOP);
         }
-        Number::Refused(CODE, at)
+        Err(Refusal::Code.at(at))
     }
 
-    // C.27: a number from bit 3. The octet alone is decided here, so that it costs no call: see `longer_number`.
-    pub fn number_at_bit_3(self, s: &[u8]) -> Number
-        ensures { result ≡ field_at (numbers 3) top 3 s.now self.at }
+    // C.27, C.28: a number from bit 3 or 4. The octet alone is decided here, so that it costs no call: see `longer_number`.
+    #[tactic(auto, unfolding(crate::specs::Fields::field_at))]
+    pub fn number<const BIT: u32>(self, s: &[u8]) -> Reading<u64>
+        requires { (1 ≤ BIT) × (BIT ≤ 6) }
+        ensures { result ≡ field_at (numbers BIT) top BIT s.now self.at }
     {
         let at = self.at;
         if s.len() <= at {
-            return Number::Refused(TRUNCATED, at);
+            return Err(Refusal::Truncated.at(at));
         }
         let o = s[at];
-        if bits(o, 3, 3) == 0 {
-            return self.behind(s, bits(o, 4, 8), 0, 1, 32, TOP);
+        if bits(o, BIT, BIT) == 0 {
+            return self.behind(s, bits(o, BIT + 1, 8), 0, 1, values(8 - BIT), TOP);
         }
-        self.longer_number(s, 3)
-    }
-
-    // C.28: a number from bit 4.
-    pub fn number_at_bit_4(self, s: &[u8]) -> Number
-        ensures { result ≡ field_at (numbers 4) top 4 s.now self.at }
-    {
-        let at = self.at;
-        if s.len() <= at {
-            return Number::Refused(TRUNCATED, at);
-        }
-        let o = s[at];
-        if bits(o, 4, 4) == 0 {
-            return self.behind(s, bits(o, 5, 8), 0, 1, 16, TOP);
-        }
-        self.longer_number(s, 4)
+        self.longer_number(s, BIT)
     }
 
     // C.27, C.28: a number from bit 3 or 4 that has 1 there: coded 100, 101, or 110 and padding.
-    fn longer_number(self, s: &[u8], bit: u32) -> Number
+    fn longer_number(self, s: &[u8], bit: u32) -> Reading<u64>
         requires { (1 ≤ bit) × (bit ≤ 6) × (self.at < length s.now) × (bits_of (slice_index s.now self.at) bit bit ≢ 0) }
         ensures { result ≡ field_at (numbers bit) top bit s.now self.at }
     {
@@ -167,22 +154,23 @@ impl Cursor {
             return self.behind(s, rest, 2, short + middle + 1, long, TOP);
         }
         if code != 6 {
-            return Number::Refused(CODE, at);
+            return Err(Refusal::Code.at(at));
         }
         if rest != 0 {
-            return Number::Refused(PADDING, at);
+            return Err(Refusal::Padding.at(at));
         }
         self.behind(s, 0, 3, short + middle + long + 1, 1048576, TOP)
     }
 
     // C.22, C.23, C.24: a length from bit 2, 5 or 7, coded 0, or 10 or 11 and padding.
-    pub fn length(self, s: &[u8], bit: u32) -> Number
+    #[tactic(auto, unfolding(crate::specs::Fields::field_at))]
+    pub fn length(self, s: &[u8], bit: u32) -> Reading<u64>
         requires { (1 ≤ bit) × (bit ≤ 7) }
         ensures { result ≡ field_at (lengths bit) no_top bit s.now self.at }
     {
         let at = self.at;
         if s.len() <= at {
-            return Number::Refused(TRUNCATED, at);
+            return Err(Refusal::Truncated.at(at));
         }
         let o = s[at];
         let short = values(8 - bit);
@@ -190,7 +178,7 @@ impl Cursor {
             return self.behind(s, bits(o, bit + 1, 8), 0, 1, short, NO_TOP);
         }
         if bits(o, bit + 2, 8) != 0 {
-            return Number::Refused(PADDING, at);
+            return Err(Refusal::Padding.at(at));
         }
         if bits(o, bit, bit + 1) == 2 {
             return self.behind(s, 0, 1, short + 1, 256, NO_TOP);
@@ -199,19 +187,20 @@ impl Cursor {
     }
 
     // C.21: how many entries the head lists for a table, from bit 1, coded 0, or 1 and padding.
-    pub fn count(self, s: &[u8]) -> Number
+    #[tactic(auto, unfolding(crate::specs::Fields::field_at, crate::specs::Fields::read_in, crate::specs::Fields::share_of, format::specs::Numbers::behind_first, format::specs::Numbers::c21))]
+    pub fn count(self, s: &[u8]) -> Reading<u64>
         ensures { result ≡ field_at c21 top 1 s.now self.at }
     {
         let at = self.at;
         if s.len() <= at {
-            return Number::Refused(TRUNCATED, at);
+            return Err(Refusal::Truncated.at(at));
         }
         let o = s[at];
         if bits(o, 1, 1) == 0 {
             return self.behind(s, bits(o, 2, 8), 0, 1, 128, TOP);
         }
         if bits(o, 2, 4) != 0 {
-            return Number::Refused(PADDING, at);
+            return Err(Refusal::Padding.at(at));
         }
         self.behind(s, bits(o, 5, 8), 2, 129, 1048576, TOP)
     }
@@ -262,77 +251,49 @@ fn table() -> [[u8; 8]; 13]
     ROWS
 }
 
-// Each of the n octets from i on is in its range of the row.
-fn fits(row: [u8; 8], s: &[u8], i: usize, n: usize) -> bool
-    requires { (n ≤ 4) × (i + n ≤ length s.now) }
-    ensures { result ≡ fits (ranges 0 n row) (drop i s.now) }
+// Each of the first n octets of s is in its range of the row.
+#[tactic(auto, using(crate::proofs::Utf8::range_next, crate::proofs::Utf8::no_ranges))]
+fn fits(row: &[u8; 8], s: &[u8], n: usize) -> bool
+    requires { (n ≤ 4) × (n ≤ length s.now) }
+    ensures { result ≡ fits (ranges 0 n row.now) s.now }
 {
-    let mut k = 0;
-    while k < n {
-        if !among(s[i + k], row[2 * k], row[2 * k + 1]) {
+    for k in 0..n {
+        if !among(s[k], row[2 * k], row[2 * k + 1]) {
             return false;
         }
-        k += 1;
     }
     true
 }
 
-// n, where n octets from i on are there and fit one of the rows from `first` to before `end`; 0 where they fit none.
-fn by_rows(
-    rows: &[[u8; 8]],
-    first: usize,
-    end: usize,
-    s: &[u8],
-    i: usize,
-    to: usize,
-    n: usize,
-) -> usize
-    requires { (first ≤ end) × (end ≤ length rows.now) × (i ≤ to) × (to ≤ length s.now) × (n ≤ 4) }
-    ensures { result ≡ by_rows n (slice_range rows.now first end) (slice_range s.now i to) }
+// n, where n octets of s are there and fit one of the rows.
+#[tactic(auto, using(crate::proofs::Utf8::row_next, crate::proofs::Utf8::no_row), unfolding(crate::specs::Utf8::by_rows))]
+fn by_rows(rows: &[[u8; 8]], s: &[u8], n: usize) -> Option<usize>
+    requires { (1 ≤ n) × (n ≤ 4) }
+    ensures { result ≡ counted (by_rows n rows.now s.now) }
 {
-    if to - i < n {
-        return 0;
+    if s.len() < n {
+        return None;
     }
-    let mut r = first;
-    while r < end {
-        if fits(rows[r], s, i, n) {
-            return n;
+    for row in rows {
+        if fits(row, s, n) {
+            return Some(n);
         }
-        r += 1;
     }
-    0
+    None
 }
 
-// How many octets the character at i has, 0 where none is. Its first octet tells which of UTF8-1 to UTF8-4 it can be, so that only their rows are gone through.
-fn character(s: &[u8], i: usize, to: usize) -> usize
-    requires { (i < to) × (to ≤ length s.now) }
-    ensures { result ≡ character (slice_range s.now i to) }
+// How many octets the first character of s has. Its first octet tells which of UTF8-1 to UTF8-4 it can be, so that only their rows are gone through.
+fn character(s: &[u8]) -> Option<usize>
+    requires { 0 < length s.now }
+    ensures { result ≡ counted (character s.now) }
 {
     let rows = table();
-    match s[i] {
-        0x00..=0x7F => by_rows(&rows, 0, 3, s, i, to, 1),
-        0x80..=0xDF => by_rows(&rows, 3, 4, s, i, to, 2),
-        0xE0..=0xEF => by_rows(&rows, 4, 10, s, i, to, 3),
-        _ => by_rows(&rows, 10, 13, s, i, to, 4),
+    match s[0] {
+        0x00..=0x7F => by_rows(&rows[..3], s, 1),
+        0x80..=0xDF => by_rows(&rows[3..4], s, 2),
+        0xE0..=0xEF => by_rows(&rows[4..10], s, 3),
+        _ => by_rows(&rows[10..], s, 4),
     }
-}
-
-fn higher(a: u8, b: u8) -> u8
-    ensures { (a ≤ result) × (b ≤ result) }
-{
-    if a < b {
-        return b;
-    }
-    a
-}
-
-fn lower(a: u8, b: u8) -> u8
-    ensures { (result ≤ a) × (result ≤ b) }
-{
-    if b < a {
-        return b;
-    }
-    a
 }
 
 // No octet of some is below `low` or above `high`.
@@ -352,48 +313,42 @@ fn half_of(n: usize) -> usize
 
 // Those of more than 32 octets. Nothing ends the loop early, so that one instruction looks at many of them. It goes through two stretches side by side, which
 // overlap, each of a multiple of 32 octets, so that none is left for a loop of its own.
-fn extremes(s: &[u8], from: usize, to: usize) -> LowHigh
-    requires { (from + 32 < to) × (to ≤ length s.now) }
-    ensures { (j : ℕ) → from ≤ j → j < to → (result.low ≤ slice_index s.now j) × (slice_index s.now j ≤ result.high) }
+fn extremes(s: &[u8]) -> LowHigh
+    requires { 32 < length s.now }
+    ensures { EachIndex s.now (λ j. (result.low ≤ slice_index s.now j) × (slice_index s.now j ≤ result.high)) }
 {
-    let half = half_of(to - from);
-    let second = to - half;
-    let mut low = 0xFF;
-    let mut high = 0;
-    let mut i = 0;
-    while i < half {
-        low = lower(lower(low, s[from + i]), s[second + i]);
-        high = higher(higher(high, s[from + i]), s[second + i]);
-        i += 1;
+    let half = half_of(s.len());
+    let second = s.len() - half;
+    let mut low: u8 = 0xFF;
+    let mut high: u8 = 0;
+    for i in 0..half {
+        low = low.min(s[i]).min(s[second + i]);
+        high = high.max(s[i]).max(s[second + i]);
     }
     LowHigh { low, high }
 }
 
 // A space in place of a tab, a line feed or a carriage return.
+#[tactic(auto, using(crate::proofs::Utf8::alone_single), unfolding(crate::proofs::Utf8::single))]
 fn raised(b: u8) -> u8
     ensures { 0x20 ≤ result → b ≤ 0x7F → alone b ≡ true }
 {
-    if among(b, 0x09, 0x0A) {
-        return 0x20;
-    }
-    if b == 0x0D {
+    if among(b, 0x09, 0x0A) || b == 0x0D {
         return 0x20;
     }
     b
 }
 
 // Each of more than 32 octets is a character by itself, if none is above 7F. A loop as that of `extremes`.
-fn all_alone(s: &[u8], from: usize, to: usize) -> bool
-    requires { (from + 32 < to) × (to ≤ length s.now) }
-    ensures { result ≡ true → ((j : ℕ) → from ≤ j → j < to → slice_index s.now j ≤ 0x7F) → Alone s.now from to }
+fn all_alone(s: &[u8]) -> bool
+    requires { 32 < length s.now }
+    ensures { result ≡ true → EachIndex s.now (λ j. slice_index s.now j ≤ 0x7F) → Alone s.now }
 {
-    let half = half_of(to - from);
-    let second = to - half;
-    let mut low = 0xFF;
-    let mut i = 0;
-    while i < half {
-        low = lower(lower(low, raised(s[from + i])), raised(s[second + i]));
-        i += 1;
+    let half = half_of(s.len());
+    let second = s.len() - half;
+    let mut low: u8 = 0xFF;
+    for i in 0..half {
+        low = low.min(raised(s[i])).min(raised(s[second + i]));
     }
     0x20 <= low
 }
@@ -403,10 +358,10 @@ pub fn four(x: &[u8], at: usize) -> u64
     requires { at + 4 ≤ length x.now }
     ensures { (result ≡ weight (take 4 (drop at x.now))) × Small (take 4 (drop at x.now)) × (result < 0x1_0000_0000) }
 {
-    wide(x[at])
-        + 0x100 * wide(x[at + 1])
-        + 0x1_0000 * wide(x[at + 2])
-        + 0x100_0000 * wide(x[at + 3])
+    u64::from(x[at])
+        + 0x100 * u64::from(x[at + 1])
+        + 0x1_0000 * u64::from(x[at + 2])
+        + 0x100_0000 * u64::from(x[at + 3])
 }
 
 // Eight octets from `at` on as one number, so that they are loaded and looked at at once.
@@ -431,15 +386,14 @@ pub fn not_plain(x: u64) -> u64
 }
 
 // The same of eight octets or more, by eights of which the last may overlap, in one number: no high bit of it is set where all octets are plain.
-fn not_plain_by_eights(s: &[u8], from: usize, to: usize) -> u64
-    requires { (from + 8 ≤ to) × (to ≤ length s.now) }
-    ensures { bit_and result (high_bits 8) ≡ 0 → Plain s.now from to }
+fn not_plain_by_eights(s: &[u8]) -> u64
+    requires { 8 ≤ length s.now }
+    ensures { bit_and result (high_bits 8) ≡ 0 → Plain s.now 0 (length s.now) }
 {
-    let mut seen = not_plain(eight(s, to - 8));
-    let mut i = from;
-    while 8 < to - i {
-        seen = seen | not_plain(eight(s, i));
-        i += 8;
+    let last = s.len() - 8;
+    let mut seen = not_plain(eight(s, last));
+    for k in 0..last.div_ceil(8) {
+        seen |= not_plain(eight(s, 8 * k));
     }
     seen
 }
@@ -461,53 +415,46 @@ fn all_plain(s: &[u8], from: usize, to: usize) -> bool
         let both = not_plain(eight(s, from)) | not_plain(eight(s, to - 8));
         return both & HIGH == 0;
     }
-    not_plain_by_eights(s, from, to) & HIGH == 0
+    not_plain_by_eights(&s[from..to]) & HIGH == 0
 }
 
 // Each of more than 32 octets is a character by itself. Most long texts are plain, and most others have line ends beside.
-fn is_easy(s: &[u8], from: usize, to: usize) -> bool
-    requires { (from + 32 < to) × (to ≤ length s.now) }
-    ensures { result ≡ true → Alone s.now from to }
+#[tactic(auto, using(crate::proofs::Utf8::alone_plain))]
+fn is_easy(s: &[u8]) -> bool
+    requires { 32 < length s.now }
+    ensures { result ≡ true → Alone s.now }
 {
-    let e = extremes(s, from, to);
-    if is_plain(e.low) && is_plain(e.high) {
-        return true;
-    }
-    e.high < 0x80 && all_alone(s, from, to)
+    let e = extremes(s);
+    e.high < 0x80 && (0x20 <= e.low || all_alone(s))
 }
 
 // The octets of a short string, at most, which is looked at by eights.
 const SHORT: usize = 32;
 
-// The octets from `from` to before `to` are text: many at once where that tells it, or character by character.
-fn by_characters(s: &[u8], from: usize, to: usize) -> bool
-    requires { (from ≤ to) × (to ≤ length s.now) }
-    ensures { result ≡ is_text (slice_range s.now from to) }
+// These octets are text: many at once where that tells it, or character by character. It is called, so that a short string, which it seldom sees, costs none of its registers.
+#[inline(never)]
+#[tactic(auto, using(crate::proofs::Utf8::text_next, crate::proofs::Utf8::text_none, crate::proofs::Utf8::alone_text), unfolding(crate::specs::Utf8::is_text, crate::specs::Utf8::text_behind))]
+fn by_characters(s: &[u8]) -> bool
+    ensures { result ≡ is_text s.now }
 {
-    if SHORT < to - from && is_easy(s, from, to) {
+    if SHORT < s.len() && is_easy(s) {
         return true;
     }
-    let mut i = from;
-    while i < to {
-        let n = character(s, i, to);
-        if n == 0 {
+    let mut rest = s;
+    while !rest.is_empty() {
+        let Some(n) = character(rest) else {
             return false;
-        }
-        i += n;
+        };
+        rest = &rest[n..];
     }
     true
 }
 
-// The octets from `from` to before `to` are text. `by_characters` stands twice, so that it is called, and a short string costs none of its registers.
+// The octets from `from` to before `to` are text. Those after them are loaded too where a string is short (`all_plain`), so that s is not cut down to them.
+#[tactic(auto, using(crate::proofs::Utf8::plain_text))]
 pub fn is_text(s: &[u8], from: usize, to: usize) -> bool
     requires { (from ≤ to) × (to ≤ length s.now) }
     ensures { result ≡ is_text (slice_range s.now from to) }
 {
-    if SHORT < to - from {
-        return by_characters(s, from, to);
-    }
-    if all_plain(s, from, to) {
-        return true;
-    }
-    by_characters(s, from, to)
+    to - from <= SHORT && all_plain(s, from, to) || by_characters(&s[from..to])
 }

@@ -20,9 +20,9 @@ use Rattle.fields.specs.Utf8.{rows, fits, started_by, from_first, character, tex
 use Rattle.fields.proofs.Utf8.{told, never, both}
 use Rattle.fields.proofs.Characters.{text_exact, one_list, long, sized}
 use Rattle.decimal.specs.Words.{shape, word_count}
-use Rattle.decimal.specs.Machine.{least_in}
-use Rattle.decimal.specs.declared.scanning.Found.{Found}
-use Rattle.decimal.specs.declared.scanning.Found.TheVariants.{Integers, NoIntegers}
+use Rattle.decimal.specs.Machine.{integers, least_in}
+use Rattle.std.specs.Prelude.{Option, None}
+use Rattle.decimal.specs.declared.scanning.Integers.{Integers}
 use Rattle.decimal.proofs.Said as D
 use Rattle.decimal.proofs.Shapes.{spelled_few, shape_spelled, spelled_shape, length_in}
 use Rattle.forms.specs.Reading.{is_text16, characters16, are_places, places_of, are_integers, no_text, said}
@@ -343,7 +343,7 @@ module _ (x : Octets) where
   alphabet_by P u a b = told (all_letters numeric x) (λ n. rw n (a n)) (λ n. told (all_letters dates x) (λ d. rw (n, d) (b d)) (λ d. rw (n, d) u))
 
   -- and what holds of utf-8 where no integers are found, and of each form of integers where they are
-  pub found_by : (P : StringForm → Found → Type 0) → P Utf8 NoIntegers → ((f : StringForm) → 0 < width f → shape (width f) x ≡ true → P f (Integers (word_count x) (width f))) → P (integers_for x) (least_in x)
+  pub found_by : (P : StringForm → Option Integers → Type 0) → P Utf8 None → ((f : StringForm) → 0 < width f → shape (width f) x ≡ true → P f (integers (word_count x) (width f))) → P (integers_for x) (least_in x)
   unfolding integers_for least_in
   found_by P u a =
       told (shape 2 x) (λ s. rw s (a Short (omega arith) s))

@@ -5,7 +5,9 @@ pub mod Lists
 pub mod Forms
 pub mod FieldSizes
 pub mod Streams
+pub mod Compared
 pub mod Sizes
+pub mod Units
 pub mod Puts
 pub mod Packs
 pub mod Scanned

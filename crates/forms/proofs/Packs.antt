@@ -1,8 +1,9 @@
 -- The laws of the code that packs: which alphabets have an octet, and its place; a string looked at, and packed, octet by octet.
 -- Assumes nothing.
-use mathlib.Core.Path.{◌≡◌, refl, sym, ◌∙◌}
+use mathlib.Core.Path.{◌≡◌, refl, sym, ap, ◌∙◌}
 use mathlib.Core.Bool.{Bool, true, false, not, ◌&&◌, ◌||◌}
-use mathlib.Core.List.{List, [], ◌∷◌}
+use mathlib.Core.List.{List, [], ◌∷◌, ◌++◌}
+use Rattle.std.specs.Prelude.{min}
 use Prim.Native.Nat.{ℕ, ◌+◌, ◌-◌, ◌*◌, ◌≤◌, ◌<◌}
 use native.Mathlib.Omega.{arith}
 use borrow.Author.Tests.{ltb-true, leb-true, eqb-true, ne_eqb, lt-leb, le-leb}
@@ -15,24 +16,16 @@ use Rattle.format.specs.declared.StringForm.{StringForm}
 use Rattle.format.specs.declared.StringForm.TheVariants.{Utf8, Utf16, Numeric, Dates, Short, Int, Long}
 use Rattle.fields.proofs.Utf8.{told, never, both}
 use Rattle.forms.specs.Packing.{alphabet, is_letter, all_letters, place_in, packed_by, alphabet_for}
-use Rattle.forms.specs.Streams.{part}
-use Rattle.forms.proofs.Streams.{part_none, part_cons}
 use Rattle.forms.proofs.Alphabets as A
 use Rattle.forms.proofs.Alphabets.{Alphabet, every, below, letter_place}
 
--- ---- values that a branch leaves: of `p || b` and of `p && b`
+-- ---- values that a branch leaves: of `p || b`
 module _ (v p b : Bool) where
   pub or_then : p ≡ true → v ≡ p → v ≡ (p || b)
   or_then e f = rw e (f ∙ e)
 
   pub or_else : p ≡ false → v ≡ b → v ≡ (p || b)
   or_else e f = rw e f
-
-  pub and_then : p ≡ true → v ≡ b → v ≡ (p && b)
-  and_then e f = rw e f
-
-  pub and_else : p ≡ false → v ≡ p → v ≡ (p && b)
-  and_else e f = rw e (f ∙ e)
 
 pub range_then : (v : Bool) (a z n : ℕ) → a ≤ n → v ≡ leb n z → v ≡ (leb a n && leb n z)
 range_then v a z n h e = rw (le-leb a n h) e
@@ -174,26 +167,31 @@ module _ (as' rest : List ℕ) where
       unfolding packed_by
       pack_two p after l f g = rw (e, f, d, g)
 
--- and in a slice
-module _ (as' s : List ℕ) (i to : ℕ) (h : to ≤ length s) where
-  pub slice_first : all_letters as' (part s i to) ≡ true → i < to → is_letter as' (get_or s i 0) ≡ true
-  slice_first l m = (letter_first as' _ _ _ (part_cons s i to m h) l).0
+-- and in pairs of octets, of which the last may be one alone: p comes first, and `more` after it
+module _ (as' p more rest : List ℕ) (e : rest ≡ p ++ more) (n : length p ≡ min 2 (length rest)) (s : 0 < length rest) (l : all_letters as' rest ≡ true) where
+  pub record Pair : Type 0 where
+    pub first : is_letter as' (get_or p 0 0) ≡ true
+    pub second : length p ≡ 2 → is_letter as' (get_or p 1 0) ≡ true
+    pub after : all_letters as' more ≡ true
+    pub two : length p ≡ 2 → (h k : ℕ) → h ≡ place_in as' (get_or p 0 0) → k ≡ place_in as' (get_or p 1 0) → packed_by as' rest ≡ (16 * h + k) ∷ packed_by as' more
+    pub one : (length p ≡ 2 → ⊥) → (h : ℕ) → h ≡ place_in as' (get_or p 0 0) → packed_by as' rest ≡ (16 * h + 15) ∷ packed_by as' more
 
-  pub slice_last : i < to → to ≤ i + 1 → (p : ℕ) → p ≡ place_in as' (get_or s i 0) → packed_by as' (part s i to) ≡ (16 * p + 15) ∷ []
-  slice_last m n p d = pack_one as' _ _ _ (part_cons s i to m h) p d (part_none s (i + 1) to n)
-
-  module _ (m : i + 1 < to) where
-    first : part s i to ≡ get_or s i 0 ∷ part s (i + 1) to
-    first = part_cons s i to (omega arith) h
-
-    second : part s (i + 1) to ≡ get_or s (i + 1) 0 ∷ part s (i + 2) to
-    second = let e : i + 1 + 1 ≡ i + 2 = omega arith in part_cons s (i + 1) to m h ∙ rw e
-
-    pub slice_second : all_letters as' (part s i to) ≡ true → (is_letter as' (get_or s (i + 1) 0) ≡ true) × (all_letters as' (part s (i + 2) to) ≡ true)
-    slice_second l = letter_first as' _ _ _ second (letter_first as' _ _ _ first l).1
-
-    pub slice_two : (p q : ℕ) → p ≡ place_in as' (get_or s i 0) → q ≡ place_in as' (get_or s (i + 1) 0) → packed_by as' (part s i to) ≡ (16 * p + q) ∷ packed_by as' (part s (i + 2) to)
-    slice_two p q d e = pack_two as' _ _ _ first p d _ _ q second e
+pub in_pairs : (as' p more rest : List ℕ) (e : rest ≡ p ++ more) (n : length p ≡ min 2 (length rest)) (s : 0 < length rest) (l : all_letters as' rest ≡ true) → Pair as' p more rest e n s l
+in_pairs as' [] more rest e n s l = absurd (omega arith)
+in_pairs as' (a ∷ []) [] rest e n s l =
+    record {
+      first = (letter_first as' rest a [] e l).0;
+      second = λ h. absurd (omega arith);
+      after = (letter_first as' rest a [] e l).1;
+      two = λ h. absurd (omega arith);
+      one = λ _ h d. pack_one as' rest a [] e h d refl ∙ ap (λ (x : List ℕ). (16 * h + 15) ∷ x) (sym (pack_none as' [] refl));
+    }
+in_pairs as' (a ∷ []) (m ∷ more) rest e n s l = absurd (let k = ap length e in omega arith)
+in_pairs as' (a ∷ b ∷ []) more rest e n s l =
+    let f = letter_first as' rest a (b ∷ more) e l in
+    let g = letter_first as' (b ∷ more) b more refl f.1 in
+    record { first = f.0; second = λ _. g.0; after = g.1; two = λ _ h k d i. pack_two as' rest a (b ∷ more) e h d b more k refl i; one = λ h. absurd (h refl) }
+in_pairs as' (a ∷ b ∷ c ∷ p) more rest e n s l = absurd (omega arith)
 
 -- ---- the alphabet that is chosen
 module _ (x : List ℕ) where

@@ -20,8 +20,8 @@ use Rattle.decimal.specs.Words.{shape, integers_in, word_count}
 use Rattle.decimal.specs.Machine.{stepped, ended, more, found, scanned, scanned_by, least_in, ended_octets, held_by, written, fitting}
 use Rattle.decimal.specs.declared.scanning.Word.{Word}
 use Rattle.decimal.specs.declared.scanning.Word.TheVariants.{Empty, NoWord}
-use Rattle.decimal.specs.declared.scanning.Found.{Found}
-use Rattle.decimal.specs.declared.scanning.Found.TheVariants.{Integers, NoIntegers}
+use Rattle.std.specs.Prelude.{Option, Some, None}
+use Rattle.decimal.specs.declared.scanning.Integers.{Integers}
 use Rattle.decimal.specs.declared.scanning.Scan.{Scan}
 use Rattle.decimal.proofs.Shapes.{length_in, few_words}
 use Rattle.decimal.proofs.Scans.{written_is, fitting_is, at_end, at_space, at_octet}
@@ -29,12 +29,12 @@ use Rattle.forms.specs.Streams.{Lost}
 use Rattle.forms.proofs.Puts.{Left}
 
 -- ---- a text in which no integers are found any more
-none_more : (f : Found) → more f (ended NoWord) ≡ NoIntegers
+none_more : (f : Option Integers) → more f (ended NoWord) ≡ None
 unfolding more ended
-none_more (Integers k w) = refl
-none_more NoIntegers = refl
+none_more (Some i) = refl
+none_more None = refl
 
-lost_found : (u : Scan) → Lost u → found u ≡ NoIntegers
+lost_found : (u : Scan) → Lost u → found u ≡ None
 unfolding found
 lost_found u (inl e) = rw e (none_more u.before)
 lost_found u (inr e) = unfold more in rw e
@@ -43,11 +43,11 @@ lost_stays : (u : Scan) (o : ℕ) → Lost u → Lost (scanned u o)
 unfolding scanned
 lost_stays u o l = told (eqb o 0x20) (λ t. rw t (inr (lost_found u l))) (λ t. rw t (go l))
   where
-    go : Lost u → (stepped u.word o ≡ NoWord) ⊎ (u.before ≡ NoIntegers)
+    go : Lost u → (stepped u.word o ≡ NoWord) ⊎ (u.before ≡ None)
     go (inl e) = inl (unfold stepped in rw e)
     go (inr e) = inr e
 
-lost_none : (u : Scan) (x : Octets) → Lost u → found (scanned_by u x) ≡ NoIntegers
+lost_none : (u : Scan) (x : Octets) → Lost u → found (scanned_by u x) ≡ None
 unfolding scanned_by
 lost_none u [] l = lost_found u l
 lost_none u (o ∷ x) l = lost_none (scanned u o) x (lost_stays u o l)
@@ -63,7 +63,7 @@ module _ (u : Scan) (rest all : Octets) (i : found (scanned_by u rest) ≡ least
     unfolding scanned_by
     found_next = rw d (rw e at i)
 
-    pub found_none : Lost v → NoIntegers ≡ least_in all
+    pub found_none : Lost v → None ≡ least_in all
     found_none l = sym (lost_none v behind l) ∙ found_next
 
 -- ---- integers put, word by word

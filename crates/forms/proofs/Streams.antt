@@ -1,64 +1,38 @@
 -- The laws of the stream, one for each `return`.
 -- Assumes nothing.
 use mathlib.Core.Path.{◌≡◌, refl, sym, ap, ◌∙◌, subst}
-use mathlib.Core.Bool.{Bool, true, false, ◌&&◌}
+use mathlib.Core.Bool.{true, false}
 use mathlib.Core.List.{List, [], ◌∷◌, ◌++◌}
-use Prim.Native.Nat.{ℕ, zero, suc, ◌+◌, ◌-◌, ◌*◌, ◌/◌, ◌%◌, ◌≤◌, ◌<◌}
-use borrow.Author.Tests.{lt-ltb, le-ltb, ltb-true, ltb-false, eq-eqb, ne_eqb}
-use lib.Dec.{ltb, eqb}
+use Prim.Native.Nat.{ℕ, zero, suc, ◌+◌, ◌-◌, ◌*◌, ◌/◌, ◌%◌, ◌^◌, ◌≤◌, ◌<◌}
+use borrow.Author.Tests.{lt-ltb, le-ltb, ltb-true, ltb-false}
+use lib.Dec.{ltb}
 use native.Mathlib.Omega.{arith}
 use lib.IntN.{ℤ}
 use lib.ListN.{length, get_or, take, drop, length-take, length-drop}
 use lib.Seq.{drop-cons, drop-drop, take-take}
 use native.Mathlib.Numerals.{add-one}
+use Rattle.std.specs.Prelude.{Some}
+use Rattle.std.specs.Iterator.{MakesProgress, item_count}
+use Rattle.std.proofs.lemmas.List.{drop_all}
 use Rattle.format.specs.Numbers.{pick}
 use Rattle.format.specs.Characters.{IsCharacter, utf8, utf8s}
 use Rattle.format.specs.Integers.{figures, decimal, joined, list_text}
 use Rattle.format.specs.Forms.{utf16, numeric, dates, at_places, width}
-use Rattle.format.specs.Tables.{same}
 use Rattle.format.specs.declared.StringForm.{StringForm}
 use Rattle.format.specs.declared.StringForm.TheVariants.{Utf8, Utf16, Numeric, Dates, Short, Int, Long}
 use Rattle.fields.proofs.Utf8.{told, drop-take}
-use Rattle.fields.proofs.Characters.{one, two, three, four, long}
 use Rattle.decimal.specs.Reading.{integer_of, integers_of, said_in}
 use Rattle.decimal.specs.Texts as T
 use Rattle.decimal.specs.declared.printing.Text.{Text}
 use Rattle.forms.specs.declared.Said.{Said}
-use Rattle.forms.specs.declared.Next.{Next}
-use Rattle.forms.specs.declared.Next.TheVariants.{Octet, Done}
 use Rattle.forms.specs.Reading.{decoded, is_text16, characters16, places_of, said}
 use Rattle.forms.specs.Packing.{alphabet}
-use Rattle.forms.specs.Streams.{part, plain, letters, given, given_digit, given_text, unread, with_digits, ahead, Sound, Rest, Fine, Gives}
+use Rattle.forms.specs.Streams.{part, plain, letters, with_digits, ahead, listed, Sound, Rest, Fine, Idle, Waits, Gives}
 use Rattle.forms.proofs.Utf16 as U
 use Rattle.forms.proofs.Utf16.{upper, lower}
 use Rattle.forms.proofs.Alphabets as A
 use Rattle.forms.proofs.Lists as L
-use Rattle.forms.proofs.Forms.{IsAlphabet, by_integers, short, sound_said, sound_rest, sound_most}
-
--- ---- a character's octets
-
-abbrev pub waits : StringForm → ℕ → ℕ → ℕ → ℕ → ℕ → ℕ → Said
-waits form at to left a b c = record { form = form; at = at; to = to; left = left; a = a; b = b; c = c; number = 0; count = 0 }
-
-module _ (form : StringForm) (at to n o : ℕ) where
-  pub given_1 : n < 0x80 → o ≡ n → Octet o (waits form at to 0 0 0 0) ≡ given form at to (utf8 n)
-  unfolding given
-  given_1 h e = rw (one n h, e)
-
-  module _ (a : ℕ) where
-    pub given_2 : 0x80 ≤ n → n < 0x800 → o ≡ 0xC0 + n / 64 → a ≡ 0x80 + n % 64 → Octet o (waits form at to 1 a 0 0) ≡ given form at to (utf8 n)
-    unfolding given
-    given_2 h k e f = rw (two n h k, e, f)
-
-    module _ (b : ℕ) where
-      pub given_3 : 0x800 ≤ n → n < 0x10000 → o ≡ 0xE0 + n / 4096 → a ≡ 0x80 + n / 64 % 64 → b ≡ 0x80 + n % 64 → Octet o (waits form at to 2 a b 0) ≡ given form at to (utf8 n)
-      unfolding given
-      given_3 h k e f g = rw (three n h k, e, f, g)
-
-      pub given_4 : (c : ℕ) → 0x10000 ≤ n → o ≡ 0xF0 + n / 262144 → a ≡ 0x80 + n / 4096 % 64 → b ≡ 0x80 + n / 64 % 64 → c ≡ 0x80 + n % 64
-          → Octet o (waits form at to 3 a b c) ≡ given form at to (utf8 n)
-      unfolding given
-      given_4 c h e f g i = rw (four n h, e, f, g, i)
+use Rattle.forms.proofs.Forms.{IsAlphabet, by_integers, sound_said, sound_rest, sound_most}
 
 -- ---- a part of a slice
 
@@ -77,6 +51,14 @@ part_cons s at to h k =
 
 pub part-drop : (s : List ℕ) (at to n : ℕ) → drop n (part s at to) ≡ part s (at + n) to
 part-drop s at to n = let e : to - at - n ≡ to - (at + n) = omega arith in drop-take n (to - at) (drop at s) ∙ rw (drop-drop n at s, e)
+
+-- a list from a place on
+module _ (x : List ℕ) (i : ℕ) where
+  pub drop_next : i < length x → drop i x ≡ get_or x i 0 ∷ drop (i + 1) x
+  drop_next h = rw (add-one i) (drop-cons x i 0 h)
+
+  pub drop_end : length x ≤ i → drop i x ≡ []
+  drop_end h = drop_all i x h
 
 more_there : (s : List ℕ) (at to : ℕ) → to ≤ length s → ltb 0 (length (part s at to)) ≡ ltb at to
 more_there s at to h =
@@ -204,15 +186,15 @@ plain_nil Short = refl
 plain_nil Int = refl
 plain_nil Long = refl
 
-module _ (s : List ℕ) (form : StringForm) (from at to : ℕ) (h : at ≤ to) (l : to ≤ length s) (r : Rest form (part s at to)) where
-  gives : (os : List ℕ) → 0 < length os → length os ≤ 4 → plain form (part s from to) ≡ os ++ plain form (part s at to) → Gives s (unread form from to) (given form at to os)
-  unfolding given ahead with_digits
-  gives [] j k e = absurd (omega arith)
-  gives (o ∷ []) j k e = (e, record { sound = h; there = l; few = omega arith; digits = omega arith; rest = r })
-  gives (o ∷ a ∷ []) j k e = (e, record { sound = h; there = l; few = omega arith; digits = omega arith; rest = r })
-  gives (o ∷ a ∷ b ∷ []) j k e = (e, record { sound = h; there = l; few = omega arith; digits = omega arith; rest = r })
-  gives (o ∷ a ∷ b ∷ c ∷ []) j k e = (e, record { sound = h; there = l; few = omega arith; digits = omega arith; rest = r })
-  gives (o ∷ a ∷ b ∷ c ∷ d ∷ os) j k e = absurd (omega arith)
+-- the octets that a step reads: the first is given, the others wait
+module _ (u : Said) (i : Idle u) (at : ℕ) (h : at ≤ u.to) (l : u.to ≤ length u.s.now) (r : Rest u.form (part u.s.now at u.to)) (os : List ℕ)
+    (e : plain u.form (part u.s.now u.at u.to) ≡ os ++ plain u.form (part u.s.now at u.to)) where
+  pub gives : (o : ℕ) (v : Said) → Waits (record u { at = at }) os o v → Gives u o v
+  unfolding ahead with_digits
+  gives o v w = subst (λ (x : Said). Gives u o x) (sym w.2) (said, record { sound = h; there = l; few = w.1; digits = let z = i.1 in omega arith; rest = r })
+    where
+      said : ahead u ≡ o ∷ ahead (record u { at = at; left = v.left; a = v.a; b = v.b; c = v.c })
+      said = rw (i.0, i.1) (e ∙ ap (λ (x : List ℕ). x ++ plain u.form (part u.s.now at u.to)) w.0)
 
 queue : (k a b c : ℕ) → 0 < k → k ≤ 3 → take k (a ∷ b ∷ c ∷ []) ≡ a ∷ take (k - 1) (b ∷ c ∷ 0 ∷ [])
 queue zero a b c h l = absurd (omega arith)
@@ -221,14 +203,11 @@ queue (suc (suc zero)) a b c h l = refl
 queue (suc (suc (suc zero))) a b c h l = refl
 queue (suc (suc (suc (suc k)))) a b c h l = absurd (omega arith)
 
--- where the same is ahead, the same is given
-carried : (s : List ℕ) (u v : Said) → ahead s u ≡ ahead s v → (r : Next) → Gives s v r → Gives s u r
-carried s u v e (Octet o w) g = (e ∙ g.0, g.1)
-carried s u v e Done g = e ∙ g
+abbrev figure : ℕ → ℕ → ℕ
+figure n k = 0x30 + n / 10 ^ k % 10
 
-module _ (s : List ℕ) (u : Said) (f : Fine s u) where
-  pub gives_waiting : 0 < u.left
-      → Gives s u (Octet u.a (record { form = u.form; at = u.at; to = u.to; left = u.left - 1; a = u.b; b = u.c; c = 0; number = u.number; count = u.count }))
+module _ (u : Said) (f : Fine u) where
+  pub gives_waiting : 0 < u.left → Gives u u.a (record u { left = u.left - 1; a = u.b; b = u.c; c = 0 })
   unfolding ahead
   gives_waiting h = (
     rw (queue u.left u.a u.b u.c h f.few),
@@ -236,61 +215,42 @@ module _ (s : List ℕ) (u : Said) (f : Fine s u) where
   )
 
   module _ (z : u.left ≡ 0) where
-    one_digit : (k : ℕ) → u.count ≡ suc k → Gives s u (given_digit u.form u.at u.to u.number (suc k))
-    unfolding ahead with_digits given_digit figures
-    one_digit zero e =
-        told (ltb u.at u.to)
-        (λ t. rw (z, e, t) (refl, record { sound = f.sound; there = f.there; few = omega arith; digits = omega arith; rest = f.rest }))
-        (λ t. rw (z, e, t) (refl, record { sound = f.sound; there = f.there; few = omega arith; digits = omega arith; rest = f.rest }))
-    one_digit (suc k) e =
-        let m : suc (suc k) - 1 ≡ suc k = omega arith in
-        rw (z, e, m, ne_eqb (suc (suc k)) 1 (λ q. omega arith))
-        (refl, record { sound = f.sound; there = f.there; few = omega arith; digits = let l = f.digits in omega arith; rest = f.rest })
+    -- a digit: after the last one a space waits, where there is more
+    module _ (k : ℕ) (e : u.count ≡ suc k) where
+      fine : (left a b c : ℕ) → left ≤ 3 → Fine (record u { count = k; left = left; a = a; b = b; c = c })
+      fine left a b c l = record { sound = f.sound; there = f.there; few = l; digits = let d = f.digits in omega arith; rest = f.rest }
 
-    pub gives_digit : 0 < u.count → (r : Next) → r ≡ given_digit u.form u.at u.to u.number u.count → Gives s u r
-    gives_digit h r d = go u.count refl
-      where
-        go : (k : ℕ) → u.count ≡ k → Gives s u r
-        go zero e = absurd (omega arith)
-        go (suc k) e = subst (λ (x : Next). Gives s u x) (sym (d ∙ ap (given_digit u.form u.at u.to u.number) e)) (one_digit k e)
+      pub digit_last : k ≡ 0 → u.at < u.to → Gives u (figure u.number k) (record u { count = k; left = 1; a = 0x20; b = 0; c = 0 })
+      unfolding ahead with_digits figures
+      digit_last j h = (rw (z, e, j, lt-ltb u.at u.to h), fine 1 0x20 0 0 (omega arith))
+
+      pub digit_end : k ≡ 0 → u.to ≤ u.at → Gives u (figure u.number k) (record u { count = k })
+      unfolding ahead with_digits figures
+      digit_end j h = (rw (z, e, j, le-ltb u.at u.to h), fine u.left u.a u.b u.c (omega arith))
+
+      pub digit_more : 0 < k → Gives u (figure u.number k) (record u { count = k })
+      unfolding ahead with_digits figures
+      digit_more j = go k refl j
+        where
+          go : (m : ℕ) → k ≡ m → 0 < m → Gives u (figure u.number k) (record u { count = k })
+          go zero q j = absurd (omega arith)
+          go (suc m) q j = (rw (z, e, q), fine u.left u.a u.b u.c (omega arith))
 
     module _ (k : u.count ≡ 0) where
-      all_unread : ahead s u ≡ ahead s (unread u.form u.at u.to)
-      unfolding ahead with_digits
-      all_unread = rw (z, k)
-
-      pub gives_done : u.to ≤ u.at → Gives s u Done
+      pub gives_done : u.to ≤ u.at → ahead u ≡ []
       unfolding ahead with_digits
       gives_done h = let e : u.to - u.at ≡ 0 = omega arith in rw (z, k, e) (plain_nil u.form)
 
-      pub gives_read : (r : Next) → Gives s (unread u.form u.at u.to) r → Gives s u r
-      gives_read r g = carried s u (unread u.form u.at u.to) all_unread r g
-
--- ---- an integer's digit
-module _ (at to count : ℕ) where
-  pub waits_space : count ≡ 1 → ltb at to ≡ true → ◌≡◌ {A = ℕ} 1 (pick (eqb count 1 && ltb at to) 1 0)
-  waits_space e h = rw (eq-eqb _ _ e, h)
-
-  pub waits_end : count ≡ 1 → ltb at to ≡ false → ◌≡◌ {A = ℕ} 0 (pick (eqb count 1 && ltb at to) 1 0)
-  waits_end e h = rw (eq-eqb _ _ e, h)
-
-  pub waits_digit : (count ≡ 1 → ⊥) → ◌≡◌ {A = ℕ} 0 (pick (eqb count 1 && ltb at to) 1 0)
-  waits_digit n = rw (ne_eqb _ _ n)
-
 -- ---- letters
 
-module _ (form : StringForm) (at to o high : ℕ) (h : high ≡ get_or (alphabet form) (o / 16) 0) where
-  pub letters_1 : 15 ≤ o % 16 → Octet high (waits form at to 0 0 0 0) ≡ given form at to (letters (alphabet form) o)
-  unfolding given letters
-  letters_1 k = rw (le-ltb _ _ k, h)
+module _ (as' : List ℕ) (o high : ℕ) (h : high ≡ get_or as' (o / 16) 0) (u : Said) (z : u.left ≡ 0) where
+  pub letters_1 : 15 ≤ o % 16 → Waits u (letters as' o) high u
+  unfolding letters
+  letters_1 k = (rw (le-ltb _ _ k, h, z), omega arith, refl)
 
-  pub letters_2 : (low : ℕ) → o % 16 < 15 → low ≡ get_or (alphabet form) (o % 16) 0 → Octet high (waits form at to 1 low 0 0) ≡ given form at to (letters (alphabet form) o)
-  unfolding given letters
-  letters_2 low k e = rw (lt-ltb _ _ k, h, e)
-
-letters-size : (as' : List ℕ) (o : ℕ) → (0 < length (letters as' o)) × (length (letters as' o) ≤ 4)
-unfolding letters
-letters-size as' o = told (ltb (o % 16) 15) (λ t. rw t (omega arith)) (λ t. rw t (omega arith))
+  pub letters_2 : (low : ℕ) → o % 16 < 15 → low ≡ get_or as' (o % 16) 0 → Waits u (letters as' o) high (record u { left = 1; a = low; b = 0; c = 0 })
+  unfolding letters
+  letters_2 low k e = (rw (lt-ltb _ _ k, h, e), omega arith, refl)
 
 lettered : (f : StringForm) (o : ℕ) (x : List ℕ) → IsAlphabet f → Rest f (o ∷ x) → (o < 240) × Rest f x × (plain f (o ∷ x) ≡ letters (alphabet f) o ++ plain f x)
 lettered Utf8 o x l r = absurd l
@@ -303,155 +263,131 @@ lettered Long o x l r = absurd l
 
 -- ---- the steps that read
 
-module _ (s : List ℕ) (form : StringForm) (at to : ℕ) (l : at < to) (h : to ≤ length s) (r : Rest form (part s at to)) where
-  pub gives_utf8 : form ≡ Utf8 → Gives s (unread form at to) (Octet (get_or s at 0) (waits form (at + 1) to 0 0 0 0))
-  unfolding ahead with_digits
-  gives_utf8 q = (
-    rw q (part_cons s at to l h),
-    record { sound = omega arith; there = h; few = omega arith; digits = omega arith; rest = subst (λ (g : StringForm). Rest g (part s (at + 1) to)) (sym q) tt },
-  )
+module _ (u : Said) (f : Fine u) (i : Idle u) (l : u.at < u.to) where
+  pub gives_utf8 : u.form ≡ Utf8 → Gives u (get_or u.s.now u.at 0) (record u { at = u.at + 1 })
+  gives_utf8 q =
+      gives u i (u.at + 1) (omega arith) f.there (subst (λ (g : StringForm). Rest g (part u.s.now (u.at + 1) u.to)) (sym q) tt) (get_or u.s.now u.at 0 ∷ [])
+      (rw q (part_cons u.s.now u.at u.to l f.there)) _ _ (rw i.0, omega arith, refl)
 
-  module _ (q : form ≡ Utf16) where
+  module _ (q : u.form ≡ Utf16) where
     abbrev front16 : ℕ
-    front16 = get_or (characters16 (part s at to)) 0 0
+    front16 = get_or (characters16 (part u.s.now u.at u.to)) 0 0
 
-    pub text16 : is_text16 (part s at to) ≡ true
-    text16 = subst (λ (g : StringForm). Rest g (part s at to)) q r
+    pub text16 : is_text16 (part u.s.now u.at u.to) ≡ true
+    text16 = subst (λ (g : StringForm). Rest g (part u.s.now u.at u.to)) q f.rest
 
-    step16 : (k : ℕ) → Behind s at to l h text16 k → Gives s (unread form at to) (given form (at + k) to (utf8 front16))
+    step16 : (k : ℕ) → Behind u.s.now u.at u.to l f.there text16 k → (o : ℕ) (v : Said) → Waits (record u { at = u.at + k }) (utf8 front16) o v → Gives u o v
     step16 k b =
-        gives s form at (at + k) to b.0 h (subst (λ (g : StringForm). Rest g (part s (at + k) to)) (sym q) b.1) (utf8 front16) (long front16) (short front16)
-        (subst (λ (g : StringForm). plain g (part s at to) ≡ utf8 front16 ++ plain g (part s (at + k) to)) (sym q) b.2)
+        gives u i (u.at + k) b.0 f.there (subst (λ (g : StringForm). Rest g (part u.s.now (u.at + k) u.to)) (sym q) b.1) (utf8 front16)
+        (subst (λ (g : StringForm). plain g (part u.s.now u.at u.to) ≡ utf8 front16 ++ plain g (part u.s.now (u.at + k) u.to)) (sym q) b.2)
 
     module _ (n : ℕ) (e : n ≡ front16) where
       pub in_range16 : n < 0x110000
-      in_range16 = rw e (behind16 s at to l h text16).0
+      in_range16 = rw e (behind16 u.s.now u.at u.to l f.there text16).0
 
-      module _ (x : Next) where
-        pub gives_short : n < 0x10000 → x ≡ given form (at + 2) to (utf8 n) → Gives s (unread form at to) x
-        gives_short i d = rw (d, e) (step16 2 ((behind16 s at to l h text16).1 (rw e at i)))
+      module _ (o : ℕ) (v : Said) where
+        pub gives_short : n < 0x10000 → Waits (record u { at = u.at + 2 }) (utf8 n) o v → Gives u o v
+        gives_short j w = step16 2 ((behind16 u.s.now u.at u.to l f.there text16).1 (rw e at j)) o v (rw e at w)
 
-        pub gives_long : 0x10000 ≤ n → x ≡ given form (at + 4) to (utf8 n) → Gives s (unread form at to) x
-        gives_long i d = rw (d, e) (step16 4 ((behind16 s at to l h text16).2 (rw e at i)))
+        pub gives_long : 0x10000 ≤ n → Waits (record u { at = u.at + 4 }) (utf8 n) o v → Gives u o v
+        gives_long j w = step16 4 ((behind16 u.s.now u.at u.to l f.there text16).2 (rw e at j)) o v (rw e at w)
 
-  module _ (q : IsAlphabet form) where
+  module _ (q : IsAlphabet u.form) where
     abbrev octet : ℕ
-    octet = get_or s at 0
+    octet = get_or u.s.now u.at 0
 
-    step_letters : (octet < 240) × Rest form (part s (at + 1) to) × (plain form (part s at to) ≡ letters (alphabet form) octet ++ plain form (part s (at + 1) to))
+    step_letters : (octet < 240) × Rest u.form (part u.s.now (u.at + 1) u.to) × (plain u.form (part u.s.now u.at u.to) ≡ letters (alphabet u.form) octet ++ plain u.form (part u.s.now (u.at + 1) u.to))
     step_letters =
-        let p = part_cons s at to l h in
-        let t = lettered form octet (part s (at + 1) to) q (subst (λ (x : List ℕ). Rest form x) p r) in
-        (t.0, t.1, ap (plain form) p ∙ t.2)
+        let p = part_cons u.s.now u.at u.to l f.there in
+        let t = lettered u.form octet (part u.s.now (u.at + 1) u.to) q (subst (λ (x : List ℕ). Rest u.form x) p f.rest) in
+        (t.0, t.1, ap (plain u.form) p ∙ t.2)
 
     pub letters_there : octet < 240
     letters_there = step_letters.0
 
-    pub gives_letters : (x : Next) → x ≡ given form (at + 1) to (letters (alphabet form) octet) → Gives s (unread form at to) x
-    gives_letters x d =
-        let t = step_letters in
-        let k = letters-size (alphabet form) octet in
-        rw d (gives s form at (at + 1) to (omega arith) h t.1 (letters (alphabet form) octet) k.0 k.1 t.2)
+    pub gives_letters : (o : ℕ) (v : Said) → Waits (record u { at = u.at + 1 }) (letters (alphabet u.form) octet) o v → Gives u o v
+    gives_letters = let t = step_letters in gives u i (u.at + 1) (omega arith) f.there t.1 (letters (alphabet u.form) octet) t.2
 
-  module _ (q : 0 < width form) where
-    -- the integer that comes first, and what is behind it
-    step_integer : L.Next (width form) q (part s at to) (rw (part_length s at to h) (omega arith)) (by_integers (λ f. Rest f (part s at to) → length (part s at to) % width f ≡ 0) (λ r. r) (λ r. r) (λ r. r) form q r)
-    step_integer = L.next (width form) q (part s at to) _ _
+  module _ (q : 0 < width u.form) where
+    abbrev unread : List ℕ
+    unread = part u.s.now u.at u.to
 
-    pub integer_there : at + width form ≤ to
-    integer_there = let n = part_length s at to h in let w = step_integer.there in omega arith
-
-    abbrev integer : ℤ
-    integer = integer_of (width form) (take (width form) (drop at s))
+    abbrev next : ℕ
+    next = u.at + width u.form
 
     abbrev rest : List ℕ
-    rest = part s (at + width form) to
+    rest = part u.s.now next u.to
 
-    rest_is : rest ≡ drop (width form) (part s at to)
-    rest_is = sym (part-drop s at to (width form))
+    -- the integer that comes first, and what is behind it
+    step_integer : L.Next (width u.form) q unread (rw (part_length u.s.now u.at u.to f.there) (omega arith)) (by_integers (λ f. Rest f unread → length unread % width f ≡ 0) (λ r. r) (λ r. r) (λ r. r) u.form q f.rest)
+    step_integer = L.next (width u.form) q unread _ _
 
-    rest_there : Rest form rest
-    rest_there = by_integers (λ f. (x : List ℕ) → length x % width f ≡ 0 → Rest f x) (λ x e. e) (λ x e. e) (λ x e. e) form q rest (rw rest_is step_integer.whole)
+    pub integer_there : u.at + width u.form ≤ u.to
+    integer_there = let n = part_length u.s.now u.at u.to f.there in let w = step_integer.there in omega arith
 
-    as_integers : (x : List ℕ) → plain form x ≡ said_in (width form) x
-    as_integers = by_integers (λ f. (x : List ℕ) → plain f x ≡ said_in (width f) x) (λ x. refl) (λ x. refl) (λ x. refl) form q
+    abbrev integer : ℤ
+    integer = integer_of (width u.form) (take (width u.form) (drop u.at u.s.now))
 
-    said-integer : plain form (part s at to) ≡ decimal integer ++ pick (ltb (at + width form) to) (0x20 ∷ plain form rest) (plain form rest)
+    rest_is : rest ≡ drop (width u.form) unread
+    rest_is = sym (part-drop u.s.now u.at u.to (width u.form))
+
+    pub rest_there : Rest u.form rest
+    rest_there = by_integers (λ f. (x : List ℕ) → length x % width f ≡ 0 → Rest f x) (λ x e. e) (λ x e. e) (λ x e. e) u.form q rest (rw rest_is step_integer.whole)
+
+    pub integer_fine : Fine (record u { at = next })
+    integer_fine = record { sound = integer_there; there = f.there; few = f.few; digits = f.digits; rest = rest_there }
+
+    as_integers : (x : List ℕ) → plain u.form x ≡ said_in (width u.form) x
+    as_integers = by_integers (λ f. (x : List ℕ) → plain f x ≡ said_in (width f) x) (λ x. refl) (λ x. refl) (λ x. refl) u.form q
+
+    said-integer : plain u.form unread ≡ decimal integer ++ pick (ltb next u.to) (0x20 ∷ plain u.form rest) (plain u.form rest)
     said-integer =
-        let f : take (width form) (part s at to) ≡ take (width form) (drop at s) = take-take (width form) (to - at) (drop at s) (let i = integer_there in omega arith) in
-        rw (as_integers (part s at to), as_integers rest, ← more_there s (at + width form) to h, rest_is, ← f) step_integer.said
+        let f' : take (width u.form) unread ≡ take (width u.form) (drop u.at u.s.now) = take-take (width u.form) (u.to - u.at) (drop u.at u.s.now) (let i = integer_there in omega arith) in
+        rw (as_integers unread, as_integers rest, ← more_there u.s.now next u.to f.there, rest_is, ← f') step_integer.said
 
-    module _ (t : Text) (e : T.left t ≡ decimal integer) (g : T.Good t) where
-      abbrev digits-left : Said
-      digits-left = record { form = form; at = at + width form; to = to; left = 0; a = 0; b = 0; c = 0; number = t.number; count = t.count }
-
+    module _ (t : Text) (e : T.left t ≡ decimal integer) where
       pub text_some : 1 ≤ t.count
       text_some = L.text_digits t integer e
 
-      digits_fine : Fine s digits-left
-      digits_fine = record { sound = integer_there; there = h; few = omega arith; digits = g; rest = rest_there }
-
-      digits-ahead : ahead s digits-left ≡ figures 10 0x30 t.count t.number ++ pick (ltb (at + width form) to) (0x20 ∷ plain form rest) (plain form rest)
+      pub gives_text : (o : ℕ) (v : Said) → (T.left t ++ listed (record u { at = next }) ≡ o ∷ ahead v) × Fine v → Gives u o v
       unfolding ahead with_digits
-      digits-ahead = go t.count text_some
-        where
-          go : (k : ℕ) → 1 ≤ k → with_digits k t.number (ltb (at + width form) to) (plain form rest) ≡ figures 10 0x30 k t.number ++ pick (ltb (at + width form) to) (0x20 ∷ plain form rest) (plain form rest)
-          go zero k = absurd (omega arith)
-          go (suc k) l = refl
+      gives_text o v g = (rw (i.0, i.1) (said-integer ∙ rw e at g.0), g.1)
 
-      text_ahead : ahead s (unread form at to) ≡ T.left t ++ pick (ltb (at + width form) to) (0x20 ∷ plain form rest) (plain form rest)
-      unfolding ahead with_digits
-      text_ahead = rw e said-integer
+-- ---- an integer's text
+module _ (u : Said) (t : Text) where
+  abbrev digits-left : Said
+  digits-left = record u { number = t.number; count = t.count }
 
-      pub gives_text : (w : ℕ) → width form ≡ w → (x : Next) → x ≡ given_text form (at + w) to t → Gives s (unread form at to) x
-      unfolding given_text T.left
-      gives_text w v x c =
-          let d = rw (← v) at c in
-          told t.minus
-          (λ m. rw (rw m at d) ((rw m at text_ahead) ∙ rw digits-ahead, digits_fine))
-          (λ m. carried s (unread form at to) digits-left ((rw m at text_ahead) ∙ sym digits-ahead) x (gives_digit s digits-left digits_fine refl text_some x (rw m at d)))
+  pub digits_fine : Fine u → t.count ≤ 20 → Fine digits-left
+  digits_fine f g = record { sound = f.sound; there = f.there; few = f.few; digits = g; rest = f.rest }
 
--- what a step gave
-module _ (s : List ℕ) (u : Said) (x : Next) (g : Gives s u x) where
-  pub gave : (o : ℕ) (v : Said) → x ≡ Octet o v → (ahead s u ≡ o ∷ ahead s v) × Fine s v
-  gave o v e = subst (λ (r : Next). Gives s u r) e g
+module _ (u : Said) (z : u.left ≡ 0) (t : Text) (some : 1 ≤ t.count) where
+  digits-ahead : ahead (digits-left u t) ≡ figures 10 0x30 t.count t.number ++ listed u
+  unfolding ahead with_digits
+  digits-ahead = rw z (go t.count some)
+    where
+      go : (k : ℕ) → 1 ≤ k → with_digits k t.number (ltb u.at u.to) (plain u.form (part u.s.now u.at u.to)) ≡ figures 10 0x30 k t.number ++ listed u
+      go zero k = absurd (omega arith)
+      go (suc k) l = refl
 
-  pub shorter : (o : ℕ) (v : Said) → x ≡ Octet o v → length (ahead s v) < length (ahead s u)
-  shorter o v e = rw (gave o v e).0 (omega arith)
+  module _ (f : Fine u) (g : t.count ≤ 20) where
+    pub text_minus : t.minus ≡ true → (T.left t ++ listed u ≡ 0x2D ∷ ahead (digits-left u t)) × Fine (digits-left u t)
+    unfolding T.left
+    text_minus m = (rw (m, digits-ahead), digits_fine u t f g)
 
-  pub ended : x ≡ Done → ahead s u ≡ []
-  ended e = subst (λ (r : Next). Gives s u r) e g
+    pub text_digit : t.minus ≡ false → (o : ℕ) (v : Said) → Gives (digits-left u t) o v → (T.left t ++ listed u ≡ o ∷ ahead v) × Fine v
+    unfolding T.left
+    text_digit m o v g = (rw m (sym digits-ahead ∙ g.0), g.1)
+
+-- ---- what a step gave: there is less ahead
+pub progress : (u v : Said) (o : ℕ) → Gives u o v → MakesProgress Fine (item_count ahead) u (Some o) v
+progress u v o g = record { on = λ t. (g.1, tt, rw g.0 (omega arith)); keeps = g.1; rests = λ t. tt }
 
 -- ---- a whole string
-pub over : (s : List ℕ) (f : StringForm) (at to : ℕ) → at ≤ to → to ≤ length s → Sound f (part s at to) → Fine s (unread f at to) × (said f (part s at to) ≡ ahead s (unread f at to))
+pub over : (u : Said) → Idle u → u.at ≤ u.to → u.to ≤ length u.s.now → Sound u.form (part u.s.now u.at u.to) → Fine u × (said u.form (part u.s.now u.at u.to) ≡ ahead u)
 unfolding ahead with_digits
-over s f at to h l e = (record { sound = h; there = l; few = omega arith; digits = omega arith; rest = sound_rest f (part s at to) e }, sound_said f (part s at to) e)
+over u i h l e =
+    (record { sound = h; there = l; few = let z = i.0 in omega arith; digits = let z = i.1 in omega arith; rest = sound_rest u.form (part u.s.now u.at u.to) e }, rw (i.0, i.1) (sound_said u.form (part u.s.now u.at u.to) e))
 
 pub bounded : (s : List ℕ) (f : StringForm) (at to : ℕ) → to ≤ length s → Sound f (part s at to) → length (said f (part s at to)) ≤ 4 * (to - at)
 bounded s f at to l e = rw (part_length s at to l) at (sound_most f (part s at to) e)
-
--- ---- two strings
-
-module _ (s : List ℕ) (p q : Said) (x y : Next) (g : Gives s p x) (h : Gives s q y) (w : Bool) (i : same (ahead s p) (ahead s q) ≡ w) where
-  module _ (o : ℕ) (p' : Said) (e : x ≡ Octet o p') where
-    module _ (k : ℕ) (q' : Said) (f : y ≡ Octet k q') where
-      pub differ : (o ≡ k → ⊥) → false ≡ w
-      unfolding same
-      differ n = rw ((gave s p x g o p' e).0, (gave s q y h k q' f).0, ne_eqb _ _ n) at i
-
-      pub goes_on : o ≡ k → Fine s p' × Fine s q' × (same (ahead s p') (ahead s q') ≡ w)
-      unfolding same
-      goes_on n = let l = gave s p x g o p' e in let r = gave s q y h k q' f in (l.1, r.1, rw (l.0, r.0, eq-eqb _ _ n) at i)
-
-    pub left-longer : y ≡ Done → false ≡ w
-    unfolding same
-    left-longer f = rw ((gave s p x g o p' e).0, ended s q y h f) at i
-
-  module _ (e : x ≡ Done) where
-    pub right_longer : (k : ℕ) (q' : Said) → y ≡ Octet k q' → false ≡ w
-    unfolding same
-    right_longer k q' f = rw (ended s p x g e, (gave s q y h k q' f).0) at i
-
-    pub both_end : y ≡ Done → true ≡ w
-    unfolding same
-    both_end f = rw (ended s p x g e, ended s q y h f) at i

@@ -7,73 +7,58 @@ ghost use Rattle.decimal.specs.Machine.{least_in};
 ghost use Rattle.forms.specs.Reading.{said};
 ghost use Rattle.forms.specs.Streams.{part, ahead, Sound, Fine, Lost};
 
-use crate::{Next, Said};
-use decimal::scanning::{Found, Scan, Word, put_ended};
+use crate::Said;
+use decimal::scanning::{Integers, Scan, Word, put_ended};
 use format::StringForm;
 
 // A word before is no integer, or the word under way can become none: no integers will be found.
 fn is_lost(u: Scan) -> bool
     ensures { result ≡ true → Lost u }
 {
-    let before = u.before;
-    let word = u.word;
-    let Found::Integers(_, _) = before else {
-        return true;
-    };
-    match word {
-        Word::NoWord => true,
+    match (u.before, u.word) {
+        (None, _) | (_, Word::NoWord) => true,
         _ => false,
     }
 }
 
 // Octets as they stand, for utf-8. Most strings are told by their first one.
-fn found_octets(s: &[u8], from: usize, to: usize) -> Found
+fn found_octets(s: &[u8], from: usize, to: usize) -> Option<Integers>
     requires { (from ≤ to) × (to ≤ length s.now) × (length s.now ≤ 0x1_0000_0000) }
     ensures { result ≡ least_in (part s.now from to) }
 {
     let mut u = Scan::start();
-    let mut i = from;
-    while i < to {
-        u = u.step(s[i]);
+    for &o in &s[from..to] {
+        u = u.step(o);
         if is_lost(u) {
-            return Found::NoIntegers;
+            return None;
         }
-        i += 1;
     }
     u.found()
 }
 
 // And of a string in another form.
-fn found_said(s: &[u8], x: Said) -> Found
-    requires { Fine s.now x × (length (ahead s.now x) ≤ 0x10_0000_0000) }
-    ensures { result ≡ least_in (ahead s.now x) }
+fn found_said(x: Said) -> Option<Integers>
+    requires { Fine x × (length (ahead x) ≤ 0x10_0000_0000) }
+    ensures { result ≡ least_in (ahead x.entry) }
 {
     let mut scan = Scan::start();
-    let mut u = x;
-    loop {
-        match u.next(s) {
-            Next::Done => {
-                return scan.found();
-            }
-            Next::Octet(o, v) => {
-                scan = scan.step(o);
-                if is_lost(scan) {
-                    return Found::NoIntegers;
-                }
-                u = v;
-            }
+    for o in x {
+        scan = scan.step(o);
+        if is_lost(scan) {
+            return None;
         }
     }
+    scan.found()
 }
 
 // The integers whose decimal text a string is: how many, and the least of 2, 4 and 8 octets that holds each.
-pub fn integers_for(s: &[u8], form: StringForm, from: usize, to: usize) -> Found
+pub fn integers_for(s: &[u8], form: StringForm, from: usize, to: usize) -> Option<Integers>
     requires { (from ≤ to) × (to ≤ length s.now) × (length s.now ≤ 0x1_0000_0000) × Sound form (part s.now from to) }
     ensures { result ≡ least_in (said form (part s.now from to)) }
 {
     match form {
         StringForm::Utf8 => found_octets(s, from, to),
-        _ => found_said(s, Said::over(s, form, from, to)),
+        _ => found_said(Said::over(s, form, from, to)),
     }
 }
 
@@ -90,23 +75,15 @@ pub fn put_integers(
     requires { (at ≤ 0xC000_0000) × (from ≤ to) × (to ≤ length s.now) × (length s.now ≤ 0x100_0000) × Sound form (part s.now from to) × (shape (width integers) (said form (part s.now from to)) ≡ true) }
     ensures { Puts out.old at result out.new (integers_in (width integers) (said form (part s.now from to))) }
 {
-    let mut u = Said::over(s, form, from, to);
     let mut word = Word::Empty;
     let mut i = at;
-    loop {
-        match u.next(s) {
-            Next::Done => {
-                return put_ended(out, i, word.ended(), integers);
-            }
-            Next::Octet(o, v) => {
-                if o == 0x20 {
-                    i = put_ended(out, i, word.ended(), integers);
-                    word = Word::Empty;
-                } else {
-                    word = word.step(o);
-                }
-                u = v;
-            }
+    for o in Said::over(s, form, from, to) {
+        if o == 0x20 {
+            i = put_ended(out, i, word.ended(), integers);
+            word = Word::Empty;
+        } else {
+            word = word.step(o);
         }
     }
+    put_ended(out, i, word.ended(), integers)
 }

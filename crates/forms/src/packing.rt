@@ -1,5 +1,5 @@
 // A string's octets in an alphabet: which alphabet has all its characters, and their places, two in an octet.
-ghost use Rattle.std.specs.Prelude.{◌≡◌, true, false, ◌+◌, ◌-◌, ◌<◌, ◌≤◌, length};
+ghost use Rattle.std.specs.Prelude.{◌≡◌, ◌&&◌, true, false, ◌+◌, ◌-◌, ◌<◌, ◌≤◌, length};
 ghost use Rattle.format.specs.Forms.{numeric, dates};
 ghost use Rattle.format.specs.declared.StringForm.TheVariants.{Utf8};
 ghost use Rattle.fields.specs.PutContracts.{Puts};
@@ -7,7 +7,7 @@ ghost use Rattle.forms.specs.Reading.{said};
 ghost use Rattle.forms.specs.Packing.{alphabet, is_letter, all_letters, place_in, packed_by, alphabet_for};
 ghost use Rattle.forms.specs.Streams.{part, ahead, Sound, Fine};
 
-use crate::{Next, Said};
+use crate::Said;
 use fields::put::put;
 use format::StringForm;
 
@@ -16,6 +16,24 @@ use format::StringForm;
 struct Fit {
     numeric: bool,
     dates: bool,
+}
+
+impl Fit {
+    // What both alphabets have so far.
+    const ALL: Fit = Fit {
+        numeric: true,
+        dates: true,
+    };
+
+    // Of two parts of a string.
+    fn and(self, other: Fit) -> Fit
+        ensures { (result.numeric ≡ (self.numeric && other.numeric)) × (result.dates ≡ (self.dates && other.dates)) }
+    {
+        Fit {
+            numeric: self.numeric && other.numeric,
+            dates: self.dates && other.dates,
+        }
+    }
 }
 
 // Most of what an alphabet has are digits.
@@ -74,51 +92,26 @@ fn fit_octets(s: &[u8], from: usize, to: usize) -> Fit
     requires { (from ≤ to) × (to ≤ length s.now) }
     ensures { (result.numeric ≡ all_letters numeric (part s.now from to)) × (result.dates ≡ all_letters dates (part s.now from to)) }
 {
-    let mut n = true;
-    let mut d = true;
-    let mut i = from;
-    while i < to {
-        let f = fit_octet(s[i]);
-        n = n && f.numeric;
-        d = d && f.dates;
-        if !n && !d {
-            return Fit {
-                numeric: false,
-                dates: false,
-            };
+    let mut all = Fit::ALL;
+    for &o in &s[from..to] {
+        all = all.and(fit_octet(o));
+        if !all.numeric && !all.dates {
+            return all;
         }
-        i += 1;
     }
-    Fit {
-        numeric: n,
-        dates: d,
-    }
+    all
 }
 
 // And of a string in another form.
-fn fit_said(s: &[u8], x: Said) -> Fit
-    requires { Fine s.now x }
-    ensures { (result.numeric ≡ all_letters numeric (ahead s.now x)) × (result.dates ≡ all_letters dates (ahead s.now x)) }
+fn fit_said(x: Said) -> Fit
+    requires { Fine x }
+    ensures { (result.numeric ≡ all_letters numeric (ahead x.entry)) × (result.dates ≡ all_letters dates (ahead x.entry)) }
 {
-    let mut n = true;
-    let mut d = true;
-    let mut u = x;
-    loop {
-        match u.next(s) {
-            Next::Done => {
-                return Fit {
-                    numeric: n,
-                    dates: d,
-                };
-            }
-            Next::Octet(o, v) => {
-                let f = fit_octet(o);
-                n = n && f.numeric;
-                d = d && f.dates;
-                u = v;
-            }
-        }
+    let mut all = Fit::ALL;
+    for o in x {
+        all = all.and(fit_octet(o));
     }
+    all
 }
 
 fn fits(s: &[u8], form: StringForm, from: usize, to: usize) -> Fit
@@ -127,7 +120,7 @@ fn fits(s: &[u8], form: StringForm, from: usize, to: usize) -> Fit
 {
     match form {
         StringForm::Utf8 => fit_octets(s, from, to),
-        _ => fit_said(s, Said::over(s, form, from, to)),
+        _ => fit_said(Said::over(s, form, from, to)),
     }
 }
 
@@ -158,45 +151,37 @@ fn pack_octets(
     requires { (at ≤ 0x1_0000_0000) × (from ≤ to) × (to ≤ length s.now) × (length s.now ≤ 0x1_0000_0000) × (all_letters (alphabet letters) (part s.now from to) ≡ true) }
     ensures { Puts out.old at result out.new (packed_by (alphabet letters) (part s.now from to)) }
 {
-    let mut behind = at;
-    let mut i = from;
-    while i + 1 < to {
-        let high = 16 * place_in(letters, s[i]);
-        put(out, behind, high + place_in(letters, s[i + 1]));
-        i += 2;
-        behind += 1;
+    let mut i = at;
+    for pair in s[from..to].chunks(2) {
+        let high = 16 * place_in(letters, pair[0]);
+        let low = if pair.len() == 2 {
+            place_in(letters, pair[1])
+        } else {
+            15
+        };
+        put(out, i, high + low);
+        i += 1;
     }
-    if i < to {
-        put(out, behind, 16 * place_in(letters, s[i]) + 15);
-        return behind + 1;
-    }
-    behind
+    i
 }
 
 // And of a string in another form.
-fn pack_said(out: &mut [u8], at: usize, s: &[u8], x: Said, letters: StringForm) -> usize
-    requires { (at ≤ 0x1_0000_0000) × (length (ahead s.now x) ≤ 0x4_0000_0000) × Fine s.now x × (all_letters (alphabet letters) (ahead s.now x) ≡ true) }
-    ensures { Puts out.old at result out.new (packed_by (alphabet letters) (ahead s.now x)) }
+fn pack_said(out: &mut [u8], at: usize, x: Said, letters: StringForm) -> usize
+    requires { (at ≤ 0x1_0000_0000) × (length (ahead x) ≤ 0x4_0000_0000) × Fine x × (all_letters (alphabet letters) (ahead x) ≡ true) }
+    ensures { Puts out.old at result out.new (packed_by (alphabet letters) (ahead x.entry)) }
 {
     let mut u = x;
     let mut i = at;
-    loop {
-        let Next::Octet(o, v) = u.next(s) else {
-            return i;
-        };
+    while let Some(o) = u.next() {
         let high = 16 * place_in(letters, o);
-        match v.next(s) {
-            Next::Done => {
-                put(out, i, high + 15);
-                return i + 1;
-            }
-            Next::Octet(p, w) => {
-                put(out, i, high + place_in(letters, p));
-                u = w;
-                i += 1;
-            }
-        }
+        let Some(p) = u.next() else {
+            put(out, i, high + 15);
+            return i + 1;
+        };
+        put(out, i, high + place_in(letters, p));
+        i += 1;
     }
+    i
 }
 
 // The string in an alphabet that has all its characters; what the output has no room for is left out, and counted.
@@ -214,6 +199,6 @@ pub fn put_packed(
 {
     match form {
         StringForm::Utf8 => pack_octets(out, at, s, from, to, letters),
-        _ => pack_said(out, at, s, Said::over(s, form, from, to), letters),
+        _ => pack_said(out, at, Said::over(s, form, from, to), letters),
     }
 }

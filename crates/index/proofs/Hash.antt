@@ -4,6 +4,7 @@ use mathlib.Core.Path.{◌≡◌, refl, sym, ap, ◌∙◌}
 use mathlib.Core.Bool.{Bool, true, false}
 use mathlib.Core.List.{List, [], ◌∷◌}
 use lib.Dec.{ltb}
+use Prim.Native.Nat.{min}
 use Rattle.format.specs.Numbers.{pick}
 use Rattle.format.specs.Tables.{Triple}
 use Rattle.format.specs.declared.StringForm.{StringForm}
@@ -11,7 +12,8 @@ use Rattle.format.specs.declared.StringForm.TheVariants.{Utf8}
 use Prim.Native.Nat.{ℕ, zero, suc, ◌+◌, ◌-◌, ◌*◌, ◌/◌, ◌≤◌, ◌<◌}
 use native.Mathlib.Omega.{arith}
 use native.Mathlib.Decide.{dec_lt}
-use borrow.Author.Tests.{lt-ltb, le-ltb}
+use borrow.Author.Tests.{lt-ltb, le-ltb, ltb-true, ltb-false}
+use Rattle.fields.proofs.Utf8.{told}
 use lib.ListN.{length, get_or, set, take, drop}
 use lib.Seq.{sets, length-sets, get_or-take, get_or-drop, take_all, take-take, drop-drop, length-take-le}
 use Rattle.fields.specs.WeightContracts.{weight}
@@ -143,11 +145,17 @@ module _ (s : List ℕ) (f : StringForm) (place len : ℕ) (out then : List ℕ)
       let e : length then ≡ length out = ap length put.is ∙ length-sets out 0 (said f (S.part s place (place + len))) in
       rw (put.is, octets-part s f place len) (put_first out _ n (omega arith) (omega arith))
 
-  pub bucket_put : r ≤ length then → bucket (octets_of then (stretch Utf8 0 r)) ≡ bucket (octets_of s (stretch f place len))
+  bucket_put : r ≤ length then → bucket (octets_of then (stretch Utf8 0 r)) ≡ bucket (octets_of s (stretch f place len))
   bucket_put h = let l = put_length in ap bucket (put_octets r h (omega arith) ∙ take_all r _ (omega arith))
 
-  pub bucket_put_first : 65 ≤ length then → 65 ≤ r → bucket (octets_of then (stretch Utf8 0 65)) ≡ bucket (octets_of s (stretch f place len))
+  bucket_put_first : 65 ≤ length then → 65 ≤ r → bucket (octets_of then (stretch Utf8 0 65)) ≡ bucket (octets_of s (stretch f place len))
   bucket_put_first h k = ap bucket (put_octets 65 h k) ∙ bucket-first _
+
+  pub bucket_put_counted : 65 ≤ length then → (m : ℕ) → m ≡ min r 65 → bucket (octets_of then (stretch Utf8 0 m)) ≡ bucket (octets_of s (stretch f place len))
+  bucket_put_counted h m e =
+      told (ltb r 65)
+      (λ t. let l = ltb-true r 65 t in let k : m ≡ r = omega arith in rw k (bucket_put (omega arith)))
+      (λ t. let l = ltb-false r 65 t in let k : m ≡ 65 = omega arith in rw k (bucket_put_first h l))
 
 -- ---- how many buckets
 pick_lt : (b : Bool) (x y m : ℕ) → x < m → y < m → pick b x y < m

@@ -1,5 +1,5 @@
 -- Contracts of the code, not definitions to be believed. What ties the index to the tables.
-use Rattle.std.specs.Prelude.{ℕ, ◌+◌, ◌*◌, ◌≤◌, ◌<◌, ◌≡◌, Bool, true, false, not, map, length, get_or, eqb}
+use Rattle.std.specs.Prelude.{Result, Ok, Err, ℕ, ◌+◌, ◌*◌, ◌≤◌, ◌<◌, ◌≡◌, Bool, true, false, not, map, length, get_or, eqb}
 use Rattle.format.specs.Octets.{Octets, Words}
 use Rattle.format.specs.Tables.{Triple, same, same_triple}
 use Rattle.format.specs.declared.StringForm.TheVariants.{Utf8}
@@ -13,8 +13,8 @@ use Rattle.tables.specs.declared.Row.{Row}
 use Rattle.tables.specs.Kept.{stored, Inside, IsSound}
 use Rattle.index.specs.Hash.{bucket, name_bucket}
 use Rattle.index.specs.Chain.{Kind, reached, Chains}
-use Rattle.index.specs.declared.Added.{Added}
-use Rattle.index.specs.declared.Added.TheVariants.{Done, Known, Full}
+use Rattle.format.specs.declared.refusals.Refusal.{Refusal}
+use Rattle.format.specs.declared.refusals.Refusal.TheVariants.{Repeat, Full}
 
 -- Octets in the index: 384 for each table.
 abbrev pub slots : ℕ
@@ -73,10 +73,11 @@ abbrev pub listed : (s t : Octets) (table n place len : ℕ) → Bool
 listed s t table n place len = not (eqb (number_in (map (octets_of s) (entries (string_at (table_of table) t) (768 * table) n)) (octets_of s (stretch Utf8 place len))) 0)
 
 -- A string that is to be a new entry behind a table's n: it is one already, or the table is full, and nothing moved; or it was added.
-abbrev pub NewString : (s : Octets) (table n place len : ℕ) (t : Words) (index : Octets) → Added → (u : Words) (other : Octets) → Type 0
-NewString s table n place len t index Known u other = (listed s t table n place len ≡ true) × (u ≡ t) × (other ≡ index)
-NewString s table n place len t index Full u other = (listed s t table n place len ≡ false) × (256 ≤ n) × (u ≡ t) × (other ≡ index)
-NewString s table n place len t index Done u other = (listed s t table n place len ≡ false) × (n < 256) × StringEntered s table n (record { a = place; b = len; c = 0 }) t index u other
+abbrev pub NewString : (s : Octets) (table n place len : ℕ) (t : Words) (index : Octets) → Result (Unit {0}) Refusal → (u : Words) (other : Octets) → Type 0
+NewString s table n place len t index (Err Repeat) u other = (listed s t table n place len ≡ true) × (u ≡ t) × (other ≡ index)
+NewString s table n place len t index (Err Full) u other = (listed s t table n place len ≡ false) × (256 ≤ n) × (u ≡ t) × (other ≡ index)
+NewString s table n place len t index (Ok x) u other = (listed s t table n place len ≡ false) × (n < 256) × StringEntered s table n (record { a = place; b = len; c = 0 }) t index u other
+NewString s table n place len t index (Err e) u other = ⊥
 
 -- ---- what the functions ask
 -- The string at a place can be looked for among the first n entries of a table of identifying strings: it is not empty, it and they lie in s, they are indexed, and h is its bucket.

@@ -19,6 +19,7 @@ ghost use Rattle.index.specs.Chain.{last_row, pushed};
 ghost use Rattle.index.specs.Indexed.{slots, strings, strings_at, names, StringsIndexed, NamesIndexed, StringEntered, NameEntered, listed, NewString, Sought, SoughtInChain, SoughtToAdd, SoughtSaid};
 
 use format::StringForm;
+use format::refusals::Refusal;
 use tables::{Counts, Row};
 
 // Octets of the index: PART for each table.
@@ -38,26 +39,8 @@ const COUNTED: usize = 65;
 // Five spaces above three octets: with them a number of eight octets that is plain where these are.
 const FIVE: u64 = 0x2020_2020_2000_0000;
 
-// Casts, so that they are proved here alone.
-fn octet(x: u8) -> u64
-    ensures { (result ≡ x) × (result < 256) }
-{
-    x as u64
-}
-
-fn word(x: u32) -> u64
-    ensures { (result ≡ x) × (result < 0x1_0000_0000) }
-{
-    x as u64
-}
-
+// A cast, proved here alone.
 fn wide(x: u32) -> usize
-    ensures { result ≡ x }
-{
-    x as usize
-}
-
-fn number(x: u8) -> usize
     ensures { result ≡ x }
 {
     x as usize
@@ -86,17 +69,6 @@ fn spread(h: u64, x: u64) -> usize
     (sum(h, x) / 0x100_0000 % 128) as usize
 }
 
-// How many octets of so long a string count.
-fn counting(len: usize) -> usize
-    requires { 9 ≤ len }
-    ensures { (9 ≤ result) × (result ≤ len) × (len ≤ 65 → result ≡ len) × (65 < len → result ≡ 65) }
-{
-    if len < COUNTED {
-        return len;
-    }
-    COUNTED
-}
-
 // What the octets of a string come to: two numbers, of which its bucket is made; and one that tells, as `fields::not_plain` does, whether each is plain.
 #[derive(Clone, Copy)]
 struct Taken {
@@ -110,9 +82,9 @@ fn few(s: &[u8], place: usize, len: usize) -> Taken
     requires { (1 ≤ len) × (len < 4) × (place + len ≤ length s.now) }
     ensures { Takes s.now place len result.number result.last result.other }
 {
-    let middle = octet(s[place + len / 2]);
-    let end = octet(s[place + (len - 1)]);
-    let last = octet(s[place]) + 0x100 * middle + 0x1_0000 * end;
+    let middle = u64::from(s[place + len / 2]);
+    let end = u64::from(s[place + (len - 1)]);
+    let last = u64::from(s[place]) + 0x100 * middle + 0x1_0000 * end;
     Taken {
         number: 0,
         last,
@@ -139,7 +111,7 @@ fn eights(s: &[u8], place: usize, len: usize) -> Taken
     requires { (9 ≤ len) × (place + len ≤ length s.now) }
     ensures { Takes s.now place len result.number result.last result.other }
 {
-    let n = counting(len);
+    let n = len.min(COUNTED);
     let last = fields::eight(s, place + (n - 8));
     let mut number = 0;
     let mut other = fields::not_plain(last);
@@ -195,8 +167,7 @@ pub fn bucket_of(s: &[u8], place: usize, len: usize) -> usize
     requires { (1 ≤ len) × (place + len ≤ length s.now) }
     ensures { (result ≡ bucket (octets_of s.now (stretch Utf8 place len))) × (result < 128) }
 {
-    let x = look(s, place, len);
-    x.bucket
+    look(s, place, len).bucket
 }
 
 // A string's bucket, and whether it is text.
@@ -212,15 +183,9 @@ pub fn mark(s: &[u8], place: usize, len: usize) -> Marked
     ensures { (result.bucket ≡ bucket (octets_of s.now (stretch Utf8 place len))) × (result.bucket < 128) × (result.text ≡ is_text (octets_of s.now (stretch Utf8 place len))) }
 {
     let x = look(s, place, len);
-    if x.plain {
-        return Marked {
-            bucket: x.bucket,
-            text: true,
-        };
-    }
     Marked {
         bucket: x.bucket,
-        text: fields::is_text(s, place, place + len),
+        text: x.plain || fields::is_text(s, place, place + len),
     }
 }
 
@@ -254,12 +219,12 @@ fn find_chained(
 {
     let last = s[place + (len - 1)];
     let head = PART * table + h;
-    let mut k = number(index[head]);
+    let mut k = usize::from(index[head]);
     while 0 < k {
         if tables::is_spelled(s, t, 768 * table + 3 * (k - 1), place, len, last) {
             return k as u32;
         }
-        k = number(index[PART * table + HEADS + (k - 1)]);
+        k = usize::from(index[PART * table + HEADS + (k - 1)]);
     }
     find_last(s, t, table, n, place, len)
 }
@@ -350,10 +315,7 @@ fn bucket_other(s: &[u8], form: StringForm, place: usize, len: usize) -> usize
 {
     let mut first = [0; COUNTED];
     let n = forms::put_said(&mut first, 0, s, form, place, place + len);
-    if n < COUNTED {
-        return bucket_of(&first, 0, n);
-    }
-    bucket_of(&first, 0, COUNTED)
+    bucket_of(&first, 0, n.min(COUNTED))
 }
 
 // The same in any form.
@@ -361,10 +323,10 @@ pub fn bucket_said(s: &[u8], form: StringForm, place: usize, len: usize) -> usiz
     requires { (1 ≤ len) × (place + len ≤ length s.now) × (length s.now ≤ 16384) × IsSound s.now (stretch form place len) }
     ensures { (result ≡ bucket (octets_of s.now (stretch form place len))) × (result < 128) }
 {
-    if form.number() == 0 {
-        return bucket_of(s, place, len);
+    match form {
+        StringForm::Utf8 => bucket_of(s, place, len),
+        _ => bucket_other(s, form, place, len),
     }
-    bucket_other(s, form, place, len)
 }
 
 // The number of what a string says in row 255 of a full table of other strings, 0 elsewhere.
@@ -422,19 +384,15 @@ pub fn find_said(
     requires { SoughtSaid s.now t.now index.now table n form place len }
     ensures { result ≡ number_in (map (octets_of s.now) (entries (string_at (table_of table) t.now) (768 * table) n)) (octets_of s.now (stretch form place len)) }
 {
-    let h = if form.number() == 0 {
-        bucket_of(s, place, len)
-    } else {
-        bucket_other(s, form, place, len)
-    };
+    let h = bucket_said(s, form, place, len);
     let last = s[place + (len - 1)];
     let head = PART * table + h;
-    let mut i = number(index[head]);
+    let mut i = usize::from(index[head]);
     while 0 < i {
         if is_alike(s, t, 768 * table + 3 * (i - 1), form, place, len, last) {
             return i as u32;
         }
-        i = number(index[PART * table + HEADS + (i - 1)]);
+        i = usize::from(index[PART * table + HEADS + (i - 1)]);
     }
     find_last_said(s, t, table, n, form, place, len)
 }
@@ -456,22 +414,14 @@ fn is_listed(
 {
     let last = s[place + (len - 1)];
     let first = PART * table + h;
-    let mut row = number(index[first]);
+    let mut row = usize::from(index[first]);
     while 0 < row {
         if tables::is_spelled(s, t, 768 * table + 3 * (row - 1), place, len, last) {
             return true;
         }
-        row = number(index[PART * table + HEADS + (row - 1)]);
+        row = usize::from(index[PART * table + HEADS + (row - 1)]);
     }
     find_last(s, t, table, n, place, len) != 0
-}
-
-// What became of a string that was to be a new entry: it is added, or was there, or has no room.
-#[derive(Clone, Copy)]
-pub enum Added {
-    Done,
-    Known,
-    Full,
 }
 
 fn narrow(x: usize) -> u32
@@ -481,22 +431,29 @@ fn narrow(x: usize) -> u32
     x as u32
 }
 
-// The built-in string, which is in no chain, becomes an entry behind a table's n where it is none yet.
-fn add_built_in(s: &[u8], t: &mut [u32], table: usize, n: u32, place: usize, len: usize) -> Added
+// The same of the built-in string, which is in no chain.
+fn add_built_in(
+    s: &[u8],
+    t: &mut [u32],
+    table: usize,
+    n: u32,
+    place: usize,
+    len: usize,
+) -> Result<(), Refusal>
     requires { (length t.old ≡ table_words) × (table < 5) × (n ≤ 256) × (1 ≤ len) × (place + len ≤ length s.now) × (length s.now < 0x1_0000_0000) × Inside s.now (entries (string_at (table_of table) t.old) (768 * table) n) × (same (octets_of s.now (built_in (table_of table))) (octets_of s.now (stretch Utf8 place len)) ≡ true) }
     ensures { (index : List ℕ) → NewString s.now table n place len t.old index result t.new index }
 {
     if tables::find_any(s, t, table, n, place, len) != 0 {
-        return Added::Known;
+        return Err(Refusal::Repeat);
     }
     if Counts::ENTRIES <= n {
-        return Added::Full;
+        return Err(Refusal::Full);
     }
     tables::add(t, table, n, narrow(place), narrow(len), 0);
-    Added::Done
+    Ok(())
 }
 
-// The same of the string of s at place, whose bucket is h.
+// The string of s at place, whose bucket is h, becomes an entry behind a table's n: refused where it is one already (Repeat), or has no room (Full).
 pub fn add_new(
     s: &[u8],
     t: &mut [u32],
@@ -506,7 +463,7 @@ pub fn add_new(
     place: usize,
     len: usize,
     h: usize,
-) -> Added
+) -> Result<(), Refusal>
     requires { SoughtToAdd s.now t.old index.old table n place len h }
     ensures { NewString s.now table n place len t.old index.old result t.new index.new }
 {
@@ -514,23 +471,26 @@ pub fn add_new(
         return add_built_in(s, t, table, n, place, len);
     }
     if is_listed(s, t, index, table, n, place, len, h) {
-        return Added::Known;
+        return Err(Refusal::Repeat);
     }
     if Counts::ENTRIES <= n {
-        return Added::Full;
+        return Err(Refusal::Full);
     }
     tables::add(t, table, n, narrow(place), narrow(len), 0);
     if n < LAST {
         push(index, table, h, n);
     }
-    Added::Done
+    Ok(())
 }
 
 // The bucket of a name.
 fn name_bucket(prefix: u32, namespace: u32, local: u32) -> usize
     ensures { (result ≡ name_bucket (record { prefix = prefix; namespace = namespace; local = local })) × (result < 128) }
 {
-    spread(word(prefix), word(local) + 0x1_0000_0000 * word(namespace))
+    spread(
+        u64::from(prefix),
+        u64::from(local) + 0x1_0000_0000 * u64::from(namespace),
+    )
 }
 
 // The number of the name with these numbers in row 255 of a full table, 0 elsewhere.
@@ -561,12 +521,12 @@ pub fn find_name(
     ensures { result ≡ number_of_triple (entries (triple_at t.now) (768 * table) n) (record { prefix = prefix; namespace = namespace; local = local }) }
 {
     let first = PART * table + name_bucket(prefix, namespace, local);
-    let mut j = number(index[first]);
+    let mut j = usize::from(index[first]);
     while 0 < j {
         if tables::is_name(t, 768 * table + 3 * (j - 1), prefix, namespace, local) {
             return j as u32;
         }
-        j = number(index[PART * table + HEADS + (j - 1)]);
+        j = usize::from(index[PART * table + HEADS + (j - 1)]);
     }
     find_last_name(t, table, n, prefix, namespace, local)
 }

@@ -9,11 +9,15 @@ use native.Mathlib.Numerals.{add-one}
 use borrow.Author.Tests.{lt-ltb, le-ltb, le-leb, lt-leb, eq-eqb, ne_eqb}
 use lib.Dec.{eqb, ltb, leb}
 use lib.ListN.{length, get_or}
+use Rattle.std.specs.Prelude.{Result, Ok, Err}
 use Rattle.format.specs.Numbers.{pick, c25, top}
+use Rattle.format.specs.Refusals.{refusal_number}
 use Rattle.format.specs.Tables.{Triple, Vocabulary, strings, names, adding_name, holds_name, link}
 use Rattle.format.specs.Head.{is_identifying, c19}
-use Rattle.fields.specs.declared.Number.{Number}
-use Rattle.fields.specs.declared.Number.TheVariants.{Got as Num, Refused as NoNum}
+use Rattle.format.specs.declared.refusals.Fault.{Fault}
+use Rattle.format.specs.declared.refusals.Refusal.TheVariants.{Truncated, Code, Padding, Structure}
+use Rattle.fields.specs.declared.Read.{Read}
+use Rattle.fields.specs.Fields as F
 use Rattle.fields.specs.Fields.{bits_of, field_at}
 use Rattle.fields.proofs.Laws.{case}
 use Rattle.fields.proofs.Bounds.{field_got}
@@ -22,10 +26,7 @@ use Rattle.tables.specs.Rows.{table_of, vocabulary}
 use Rattle.tables.specs.Kept.{unlisted, count_of, name_table_of}
 use Rattle.tables.proofs.ByNumber.{by_number_lem}
 use Rattle.tables.proofs.Laws.{length-strings}
-use Rattle.read_names.specs.declared.Entry.{Entry}
-use Rattle.read_names.specs.declared.Entry.TheVariants.{Got as Numbered, Refused as NotNumbered}
-use Rattle.read_names.specs.declared.Field.{Field}
-use Rattle.read_names.specs.declared.Field.TheVariants.{Got as Said, Refused as NotSaid}
+use Rattle.events.specs.declared.EventString.{EventString}
 use Rattle.read_names.specs.Strings as S
 use Rattle.read_names.specs.Strings.{IdRead, StringRead, got, refused, then, id_at, spelled_at}
 use Rattle.read_names.specs.Names.{namespace_bit}
@@ -33,47 +34,49 @@ use Rattle.read_names.specs.Promises.{Ranged, Left, seen_id, IdLeft, id_seen, se
 use Rattle.read_names.specs.StringContracts.{held_of}
 use Rattle.read_names.specs.NameContracts.{new_name, seen_number}
 use Rattle.read_names.proofs.Places.{Within}
-use Rattle.read_head.specs.declared.Passed as C
-use Rattle.read_head.specs.declared.Passed.TheVariants.{Behind, Refused}
 use Rattle.read_head.specs.Head.{Passed, passing, part_at, identifying_at, another_at, surrogate_at, entry_at}
-use Rattle.read_head.specs.Promises.{seen_passed, PassedLeft, behind_entry, behind_field, PartThere, ReadsPart, table_at}
+use Rattle.read_head.specs.Promises.{seen_passed, PassedLeft, ReadsPart, table_at}
 use Rattle.read_head.proofs.Places.{passing-within, part-within, new_within, identifying_within, another-within}
 
 -- ---- what an answer stands for, and what it leaves
-abbrev Answers : (s c w : List ℕ) → C.Passed → (d v x : List ℕ) → Passed → Type 0
+abbrev Answers : (s c w : List ℕ) → Result ℕ Fault → (d v x : List ℕ) → Passed → Type 0
 Answers s c w r d v x g = (seen_passed r d v ≡ g) × PassedLeft s c w r d v x
 
 -- where the code goes on, the tables are in order; where it does not, the definition bounds the refusal's number and place
-abbrev Goes : (s c w : List ℕ) → C.Passed → (d v x : List ℕ) → Type 0
-Goes s c w (Behind at) d v x = Left s c w at d v x
-Goes s c w (Refused n p) d v x = Unit {0}
-
-module _ (s c w d v x : List ℕ) where
-  settled : (r : C.Passed) (g : Passed) → seen_passed r d v ≡ g → Within s g → Goes s c w r d v x → Answers s c w r d v x g
-  settled (Behind at) g e h l = (e, l)
-  settled (Refused n p) g e h l = (e, subst (Within s) (sym e) h)
-
-  entry_goes : (t : ℕ) (a : Entry) → IdLeft s c w t a d v x → Goes s c w (behind_entry a) d v x
-  entry_goes t (Numbered n at) l = l.0
-  entry_goes t (NotNumbered n p) l = tt
-
-  field_goes : (a : Field) → FieldLeft s c w a d v x → Goes s c w (behind_field a) d v x
-  field_goes (Said y at) l = l
-  field_goes (NotSaid n p) l = tt
+abbrev Goes : (s c w : List ℕ) → Result ℕ Fault → (d v x : List ℕ) → Type 0
+Goes s c w (Ok next) d v x = Left s c w next d v x
+Goes s c w (Err f) d v x = Unit {0}
 
 -- what was read is left out
+abbrev next_of : {A : Type 0} → Result (Read A) Fault → Result ℕ Fault
+next_of (Ok r) = Ok r.next
+next_of (Err f) = Err f
+
+module _ (s c w d v x : List ℕ) where
+  settled : (r : Result ℕ Fault) (g : Passed) → seen_passed r d v ≡ g → Within s g → Goes s c w r d v x → Answers s c w r d v x g
+  settled (Ok next) g e h l = (e, l)
+  settled (Err f) g e h l = (e, subst (Within s) (sym e) h)
+
+  entry_goes : (t : ℕ) (a : Result (Read ℕ) Fault) → IdLeft s c w t a d v x → Goes s c w (next_of a) d v x
+  entry_goes t (Ok r) l = l.0
+  entry_goes t (Err f) l = tt
+
+  field_goes : (a : Result (Read EventString) Fault) → FieldLeft s c w a d v x → Goes s c w (next_of a) d v x
+  field_goes (Ok r) l = l
+  field_goes (Err f) l = tt
+
 module _ (d v : List ℕ) where
-  passed_id : (t : ℕ) (a : Entry) → seen_passed (behind_entry a) d v ≡ passing (seen_id t a d v)
-  passed_id t (Numbered n at) = refl
-  passed_id t (NotNumbered n p) = refl
+  passed_id : (t : ℕ) (a : Result (Read ℕ) Fault) → seen_passed (next_of a) d v ≡ passing (seen_id t a d v)
+  passed_id t (Ok r) = refl
+  passed_id t (Err f) = refl
 
-  passed_number : (a : Entry) → seen_passed (behind_entry a) d v ≡ passing (seen_number a d v)
-  passed_number (Numbered n at) = refl
-  passed_number (NotNumbered n p) = refl
+  passed_number : (a : Result (Read ℕ) Fault) → seen_passed (next_of a) d v ≡ passing (seen_number a d v)
+  passed_number (Ok r) = refl
+  passed_number (Err f) = refl
 
-  passed_field : (a : Field) → seen_passed (behind_field a) d v ≡ passing (seen_field a d v)
-  passed_field (Said y at) = refl
-  passed_field (NotSaid n p) = refl
+  passed_field : (a : Result (Read EventString) Fault) → seen_passed (next_of a) d v ≡ passing (seen_field a d v)
+  passed_field (Ok r) = refl
+  passed_field (Err f) = refl
 
 passing_id : (g : S.Got IdRead) → passing (id_seen g) ≡ passing g
 passing_id (got b next v) = refl
@@ -88,63 +91,65 @@ module _ (s c w : List ℕ) (t k : ℕ) (within : k ≤ length s) (o : ℕ) (is 
   abbrev here : Vocabulary Located
   here = vocabulary (unlisted c) w
 
-  pub identifying_padded : (x : List ℕ) → 0x80 ≤ o → Answers s c w (Refused 6 k) c w x (identifying_at link (table_of t) s k here)
+  pub identifying_padded : (x : List ℕ) → 0x80 ≤ o → Answers s c w (F.refused Padding k) c w x (identifying_at link (table_of t) s k here)
   unfolding identifying_at
   identifying_padded x h = rw (le-ltb (get_or s k 0) 0x80 (omega arith)) (refl, (omega arith, within))
 
-  identifying_seen : o < 0x80 → (a : Entry) (d v : List ℕ) → seen_id t a d v ≡ id_seen (id_at link s (table_of t) k here) → seen_passed (behind_entry a) d v ≡ identifying_at link (table_of t) s k here
+  identifying_seen : o < 0x80 → (a : Result (Read ℕ) Fault) (d v : List ℕ) → seen_id t a d v ≡ id_seen (id_at link s (table_of t) k here)
+      → seen_passed (next_of a) d v ≡ identifying_at link (table_of t) s k here
   unfolding identifying_at
   identifying_seen h a d v e = rw (lt-ltb (get_or s k 0) 0x80 (omega arith)) (passed_id d v t a ∙ ap passing e ∙ passing_id (id_at link s (table_of t) k here))
 
-  pub identifying_read : o < 0x80 → (a : Entry) (d v x : List ℕ) → ReadsId s c w t a d v x (id_at link s (table_of t) k) → (r : C.Passed) → r ≡ behind_entry a
-      → Answers s c w r d v x (identifying_at link (table_of t) s k here)
-  identifying_read h a d v x reads r e =
-      rw e (settled s c w d v x (behind_entry a) _ (identifying_seen h a d v reads.0) (identifying_within s link (table_of t) k here within) (entry_goes s c w d v x t a reads.1))
+  pub identifying_read : o < 0x80 → (a : Result (Read ℕ) Fault) (d v x : List ℕ) → ReadsId s c w t a d v x (id_at link s (table_of t) k)
+      → Answers s c w (next_of a) d v x (identifying_at link (table_of t) s k here)
+  identifying_read h a d v x reads =
+      settled s c w d v x (next_of a) _ (identifying_seen h a d v reads.0) (identifying_within s link (table_of t) k here within) (entry_goes s c w d v x t a reads.1)
 
-  pub another_padded : (x : List ℕ) → 0x40 ≤ o → Answers s c w (Refused 6 k) c w x (another_at link (table_of t) s k here)
+  pub another_padded : (x : List ℕ) → 0x40 ≤ o → Answers s c w (F.refused Padding k) c w x (another_at link (table_of t) s k here)
   unfolding another_at
   another_padded x h = rw (le-ltb (get_or s k 0) 0x40 (omega arith)) (refl, (omega arith, within))
 
-  another_seen : o < 0x40 → (a : Field) (d v : List ℕ) → seen_field a d v ≡ string_seen (spelled_at link 5 s (table_of t) k true here) → seen_passed (behind_field a) d v ≡ another_at link (table_of t) s k here
+  another_seen : o < 0x40 → (a : Result (Read EventString) Fault) (d v : List ℕ) → seen_field a d v ≡ string_seen (spelled_at link 5 s (table_of t) k true here)
+      → seen_passed (next_of a) d v ≡ another_at link (table_of t) s k here
   unfolding another_at c19
-  another_seen h a d v e = rw (lt-ltb (get_or s k 0) 0x40 (omega arith)) (passed_field d v a ∙ ap passing e ∙ passing_string (spelled_at link 5 s (table_of t) k true here))
+  another_seen h a d v e =
+      rw (lt-ltb (get_or s k 0) 0x40 (omega arith)) (passed_field d v a ∙ ap passing e ∙ passing_string (spelled_at link 5 s (table_of t) k true here))
 
-  pub another-read : o < 0x40 → (a : Field) (d v x : List ℕ)
-      → (seen_field a d v ≡ string_seen (spelled_at link 5 s (table_of t) k true here)) × FieldLeft s c w a d v x → (r : C.Passed) → r ≡ behind_field a
-      → Answers s c w r d v x (another_at link (table_of t) s k here)
-  another-read h a d v x reads r e =
-      rw e (settled s c w d v x (behind_field a) _ (another_seen h a d v reads.0) (another-within s link (table_of t) k here within) (field_goes s c w d v x a reads.1))
+  pub another-read : o < 0x40 → (a : Result (Read EventString) Fault) (d v x : List ℕ)
+      → (seen_field a d v ≡ string_seen (spelled_at link 5 s (table_of t) k true here)) × FieldLeft s c w a d v x
+      → Answers s c w (next_of a) d v x (another_at link (table_of t) s k here)
+  another-read h a d v x reads =
+      settled s c w d v x (next_of a) _ (another_seen h a d v reads.0) (another-within s link (table_of t) k here within) (field_goes s c w d v x a reads.1)
 
 -- ---- a part of a name
 module _ (s c : List ℕ) (t k : ℕ) (there : Bool) where
-  pub part_absent : k ≤ length s → there ≡ false → ReadsPart s c t k there (Numbered 0 k)
+  pub part_absent : k ≤ length s → there ≡ false → ReadsPart s c t k there (F.got 0 k)
   unfolding part_at
   part_absent h z = rw z (λ w. refl, (omega arith, h, λ e. absurd (false≢true e)))
 
   module _ (is : there ≡ true) where
-    pub part_code : get_or s k 0 / 16 % 8 ≡ 7 → ReadsPart s c t k there (NotNumbered 5 k)
+    pub part_code : get_or s k 0 / 16 % 8 ≡ 7 → ReadsPart s c t k there (F.refused Code k)
     unfolding part_at
     part_code h = rw (is, eq-eqb (get_or s k 0 / 16 % 8) 7 h) (λ w. refl, tt)
 
     module _ (coded : get_or s k 0 / 16 % 8 ≡ 7 → ⊥) where
-      pub part_padded : 0x80 ≤ get_or s k 0 → ReadsPart s c t k there (NotNumbered 6 k)
+      pub part_padded : 0x80 ≤ get_or s k 0 → ReadsPart s c t k there (F.refused Padding k)
       unfolding part_at
       part_padded h = rw (is, ne_eqb (get_or s k 0 / 16 % 8) 7 coded, le-ltb (get_or s k 0) 0x80 h) (λ w. refl, tt)
 
-      pub part-read : get_or s k 0 < 0x80 → (r : Number) → r ≡ field_at c25 top 2 s k → (a : Entry) → a ≡ held_of (count_of (unlisted c) t) k r → ReadsPart s c t k there a
+      pub part_refused : get_or s k 0 < 0x80 → (f : Fault) → Err f ≡ field_at c25 top 2 s k → ReadsPart s c t k there (Err f)
+      unfolding part_at
+      part_refused h f read = rw (is, ne_eqb (get_or s k 0 / 16 % 8) 7 coded, lt-ltb (get_or s k 0) 0x80 h, ← read) (λ w. refl, tt)
+
+      pub part-read : get_or s k 0 < 0x80 → (r : Read ℕ) → Ok r ≡ field_at c25 top 2 s k → (a : Result (Read ℕ) Fault) → a ≡ held_of (count_of (unlisted c) t) k r
+          → ReadsPart s c t k there a
       unfolding part_at held_of
-      part-read h r read a e = rw (is, ne_eqb (get_or s k 0 / 16 % 8) 7 coded, lt-ltb (get_or s k 0) 0x80 h, ← read, e) (by r read)
-        where
-          by : (f : Number) → f ≡ field_at c25 top 2 s k
-              → ((w : List ℕ) → seen_number (held_of (count_of (unlisted c) t) k f) c w
-              ≡ S.number f λ n next. pick (leb n (count_of (unlisted c) t)) (got n next (vocabulary (unlisted c) w)) (refused 10 k))
-              × PartThere s c t true (held_of (count_of (unlisted c) t) k f)
-          by (NoNum n p) q = (λ w. refl, tt)
-          by (Num n i) q =
-              let g = field_got top s k c25 2 (sym q) in
-              case (count_of (unlisted c) t) n
-              (λ l. rw (lt-leb _ _ l) (λ w. refl, tt))
-              (λ l. rw (le-leb _ _ l) (λ w. refl, (l, g.3, λ e. g.0)))
+      part-read h r read a e =
+          let g = field_got top s k c25 2 (sym read) in
+          rw (is, ne_eqb (get_or s k 0 / 16 % 8) 7 coded, lt-ltb (get_or s k 0) 0x80 h, ← read, e)
+          (case (count_of (unlisted c) t) r.value
+          (λ l. rw (lt-leb _ _ l) (λ w. refl, tt))
+          (λ l. rw (le-leb _ _ l) (λ w. refl, (l, g.3, λ e. g.0))))
 
 -- ---- a name
 seen_new : (held room : Bool) (m k next : ℕ) (v : Vocabulary Located)
@@ -167,7 +172,7 @@ part-tables : (c w : List ℕ)
 unfolding strings table_of
 part-tables c w = (length-strings (unlisted c) w 0 (omega arith), length-strings (unlisted c) w 1 (omega arith), length-strings (unlisted c) w 2 (omega arith))
 
-pub surrogate_missing : (s c w x : List ℕ) (t k : ℕ) → k ≤ length s → length s ≤ k → Answers s c w (Refused 2 k) c w x (surrogate_at link (name_table_of t) s k (vocabulary (unlisted c) w))
+pub surrogate_missing : (s c w x : List ℕ) (t k : ℕ) → k ≤ length s → length s ≤ k → Answers s c w (F.refused Truncated k) c w x (surrogate_at link (name_table_of t) s k (vocabulary (unlisted c) w))
 unfolding surrogate_at
 surrogate_missing s c w x t k h l = rw (le-ltb k (length s) l) (refl, (omega arith, h))
 
@@ -178,11 +183,11 @@ module _ (s c w : List ℕ) (t k : ℕ) (there : k < length s) (b : ℕ) (is : b
   abbrev name : Passed
   name = surrogate_at link (name_table_of t) s k (vocabulary (unlisted c) w)
 
-  pub surrogate_padded : (x : List ℕ) → 4 ≤ b → Answers s c w (Refused 6 k) c w x name
+  pub surrogate_padded : (x : List ℕ) → 4 ≤ b → Answers s c w (F.refused Padding k) c w x name
   unfolding surrogate_at
   surrogate_padded x h = rw (lt-ltb k (length s) there, le-ltb (get_or s k 0) 4 (omega arith)) (refl, (omega arith, omega arith))
 
-  pub surrogate_lone : (x : List ℕ) → b ≡ 2 → Answers s c w (Refused 15 k) c w x name
+  pub surrogate_lone : (x : List ℕ) → b ≡ 2 → Answers s c w (F.refused Structure k) c w x name
   unfolding surrogate_at
   surrogate_lone x h =
       let z : get_or s k 0 ≡ 2 = omega arith in
@@ -216,14 +221,15 @@ module _ (s c w : List ℕ) (t k : ℕ) (there : k < length s) (b : ℕ) (is : b
         let z : get_or s k 0 % 4 ≡ b = omega arith in
         rw (lt-ltb k (length s) there, lt-ltb (get_or s k 0) 4 (omega arith), z, ne_eqb b 2 paired, (part-tables c w).0, add-one k)
 
-    module _ (x : List ℕ) (r : C.Passed) (a : Entry) (n p : ℕ) (ea : a ≡ NotNumbered n p) (er : r ≡ behind_entry a) where
-      refused_part : (there : Bool) (entries i : ℕ) → i ≤ length s → seen_number a c w ≡ part_at there entries s i tables → (refused n p ≡ part_at there entries s i tables → refused n p ≡ name)
-          → Answers s c w r c w x name
-      refused_part there entries i h e f =
-          let q : refused n p ≡ part_at there entries s i tables = rw ea at e in
-          rw (er, ea) (f q, subst (Within s) (sym q) (part-within s there entries i tables h))
+    module _ (x : List ℕ) (f : Fault) where
+      abbrev none : {A : Type 0} → S.Got A
+      none = refused (refusal_number f.refusal) f.at
 
-      pub name_prefix : seen_number a c w ≡ prefix_part → Answers s c w r c w x name
+      refused_part : (there : Bool) (entries i : ℕ) → i ≤ length s → none ≡ part_at there entries s i tables
+          → (none ≡ part_at there entries s i tables → none ≡ name) → Answers s c w (Err f) c w x name
+      refused_part there entries i h e g = (g e, subst (Within s) (sym e) (part-within s there entries i tables h))
+
+      pub name_prefix : seen_number (Err f) c w ≡ prefix_part → Answers s c w (Err f) c w x name
       name_prefix e = refused_part (leb 2 b) (count_of (unlisted c) 0) (k + 1) (omega arith) e λ q. rw (name_first, ← q)
 
     module _ (m : ℕ) (em : m ≡ bits_of b 8 8) (p k₁ : ℕ) (e₁ : got p k₁ tables ≡ prefix_part) (h₁ : k₁ ≤ length s) where
@@ -232,15 +238,15 @@ module _ (s c w : List ℕ) (t k : ℕ) (there : k < length s) (b : ℕ) (is : b
           let z : get_or s k 0 % 2 ≡ m = omega arith in
           rw (name_first, ← e₁, z, (part-tables c w).1)
 
-      pub name_namespace : (x : List ℕ) (r : C.Passed) (a : Entry) (n q : ℕ) → a ≡ NotNumbered n q → r ≡ behind_entry a → seen_number a c w ≡ namespace_part m k₁ → Answers s c w r c w x name
-      name_namespace x r a n q ea er e = refused_part x r a n q ea er (eqb m 1) (count_of (unlisted c) 1) k₁ h₁ e λ z. rw (name_second, ← z)
+      pub name_namespace : (x : List ℕ) (f : Fault) → seen_number (Err f) c w ≡ namespace_part m k₁ → Answers s c w (Err f) c w x name
+      name_namespace x f e = refused_part x f (eqb m 1) (count_of (unlisted c) 1) k₁ h₁ e λ z. rw (name_second, ← z)
 
       module _ (n k₂ : ℕ) (e₂ : got n k₂ tables ≡ namespace_part m k₁) (h₂ : k₂ ≤ length s) where
         name_third : name ≡ then (local_part k₂) λ l k₃ v₃. behind_local p n l k₃
         name_third = rw (name_second, ← e₂, (part-tables c w).2)
 
-        pub name_local : (x : List ℕ) (r : C.Passed) (a : Entry) (i q : ℕ) → a ≡ NotNumbered i q → r ≡ behind_entry a → seen_number a c w ≡ local_part k₂ → Answers s c w r c w x name
-        name_local x r a i q ea er e = refused_part x r a i q ea er true (count_of (unlisted c) 2) k₂ h₂ e λ z. rw (name_third, ← z)
+        pub name_local : (x : List ℕ) (f : Fault) → seen_number (Err f) c w ≡ local_part k₂ → Answers s c w (Err f) c w x name
+        name_local x f e = refused_part x f true (count_of (unlisted c) 2) k₂ h₂ e λ z. rw (name_third, ← z)
 
         -- the triple was added, or not: a
         module _ (l k₃ : ℕ) (e₃ : got l k₃ tables ≡ local_part k₂) (h₃ : k₃ ≤ length s) where
@@ -253,11 +259,11 @@ module _ (s c w : List ℕ) (t k : ℕ) (there : k < length s) (b : ℕ) (is : b
               rw (name_third, ← e₃)
               (seen_new (holds_name (names tables (name_table_of t)) triple) (ltb (length (names tables (name_table_of t))) link.entries) _ k k₃ (adding_name tables (name_table_of t) triple))
 
-          pub name_added : (a : Entry) (d v x : List ℕ) → seen_number a d v ≡ new_name link (name_table_of t) triple k k₃ tables → IdLeft s c w t a d v x → (r : C.Passed) → r ≡ behind_entry a
-              → Answers s c w r d v x name
-          name_added a d v x e left r er =
-              rw (er, name_last)
-              (settled s c w d v x (behind_entry a) _ (passed_number d v a ∙ ap passing e)
+          pub name_added : (a : Result (Read ℕ) Fault) (d v x : List ℕ) → seen_number a d v ≡ new_name link (name_table_of t) triple k k₃ tables → IdLeft s c w t a d v x
+              → Answers s c w (next_of a) d v x name
+          name_added a d v x e left =
+              rw name_last
+              (settled s c w d v x (next_of a) _ (passed_number d v a ∙ ap passing e)
               (passing-within s (new_name link (name_table_of t) triple k k₃ tables) (new_within s link (name_table_of t) triple k k₃ tables (omega arith) h₃))
               (entry_goes s c w d v x t a left))
 

@@ -1,6 +1,6 @@
 -- The entries and the tables of the head one behind the other, on plain values: a law for each way out of each function.
 -- Assumes nothing.
-use mathlib.Core.Path.{◌≡◌, refl, sym, ◌∙◌}
+use mathlib.Core.Path.{◌≡◌, refl, sym}
 use mathlib.Core.Bool.{Bool, true, false}
 use mathlib.Core.List.{List, ◌∷◌}
 use Prim.Native.Nat.{ℕ, suc, ◌+◌, ◌-◌, ◌*◌, ◌/◌, ◌%◌, ◌^◌, ◌≤◌, ◌<◌}
@@ -9,12 +9,12 @@ use native.Mathlib.Numerals.{add-one}
 use borrow.Author.Tests.{lt-ltb, le-ltb, ne_eqb}
 use lib.Dec.{eqb}
 use lib.ListN.{length, get_or, drop}
+use Rattle.std.specs.Prelude.{Result, Ok, Err}
 use Rattle.format.specs.Numbers.{pick, c21, top}
+use Rattle.format.specs.declared.refusals.Fault.{Fault}
 use Rattle.format.specs.Tables.{Vocabulary, link}
 use Rattle.format.specs.Head.{Table, ten_tables}
-use Rattle.fields.specs.declared.Cursor.{Cursor}
-use Rattle.fields.specs.declared.Number.{Number}
-use Rattle.fields.specs.declared.Number.TheVariants.{Got as Num, Refused as NoNum}
+use Rattle.fields.specs.declared.Read.{Read}
 use Rattle.fields.specs.Fields.{field_at}
 use Rattle.fields.proofs.Bounds.{field_got, field_refused}
 use Rattle.tables.specs.Located.{Located}
@@ -25,8 +25,6 @@ use Rattle.read_names.specs.Strings as S
 use Rattle.read_names.specs.Strings.{got, refused, then}
 use Rattle.read_names.specs.Promises.{Tidy, Left}
 use Rattle.read_names.proofs.Grown.{grown_none, grown_on}
-use Rattle.read_head.specs.declared.Passed as C
-use Rattle.read_head.specs.declared.Passed.TheVariants.{Behind, Refused}
 use Rattle.read_head.specs.Head.{Passed, entry_at, entries_at, tables_at, head_at}
 use Rattle.read_head.specs.Promises.{seen_passed, PassedLeft, table_at, present_at}
 
@@ -37,54 +35,45 @@ left_here s c w x at tidy l = record { tidy = tidy; within = l; grown = grown_no
 pub left-then : {s c w d v e u x y : List ℕ} {i j : ℕ} → Left s c w i d v x → Left s d v j e u y → Left s c w j e u y
 left-then l m = record { tidy = m.tidy; within = m.within; grown = grown_on _ _ _ _ _ _ l.grown m.grown }
 
--- a field's answer handed on, where `whole` is what is read from c and w on
-module _ (s c w : List ℕ) (whole : Passed) (d v e u y : List ℕ) where
-  pub handed_on : (r : C.Passed) (n p : ℕ) (g : Passed) → r ≡ Refused n p → (seen_passed r e u ≡ g) × PassedLeft s d v r e u y → (refused n p ≡ g → refused n p ≡ whole)
-      → (seen_passed r e u ≡ whole) × PassedLeft s c w r e u y
-  handed_on r n p g is h f = let z = rw is at h in rw is (f z.0, z.1)
-
 -- ---- entries
 module _ (t : Table) (s : List ℕ) (n k : ℕ) (v : Vocabulary Located) where
   pub entries_end : n ≡ 0 → entries_at link t s n k v ≡ got tt k v
   unfolding entries_at
   entries_end e = rw e
 
-  module _ (some : 0 < n) where
-    one : entries_at link t s n k v ≡ then (entry_at link t s k v) λ b next w. entries_at link t s (n - 1) next w
+  module _ (m : ℕ) (more : n ≡ m + 1) where
+    one : entries_at link t s n k v ≡ then (entry_at link t s k v) λ b next w. entries_at link t s m next w
     unfolding entries_at
-    one = let z : n ≡ suc (n - 1) = omega arith in by n (n - 1) z
-      where
-        by : (n m : ℕ) → n ≡ suc m → entries_at link t s n k v ≡ then (entry_at link t s k v) λ b next w. entries_at link t s m next w
-        by n m e = rw e
+    one = let z : n ≡ suc m = omega arith in rw z
 
-    pub entries_next : (k₁ : ℕ) (v₁ : Vocabulary Located) → got tt k₁ v₁ ≡ entry_at link t s k v → entries_at link t s (n - 1) k₁ v₁ ≡ entries_at link t s n k v
+    pub entries_next : (k₁ : ℕ) (v₁ : Vocabulary Located) → got tt k₁ v₁ ≡ entry_at link t s k v → entries_at link t s m k₁ v₁ ≡ entries_at link t s n k v
     entries_next k₁ v₁ e = rw (one, ← e)
 
     pub entries_refused : (i p : ℕ) → refused i p ≡ entry_at link t s k v → refused i p ≡ entries_at link t s n k v
     entries_refused i p e = rw (one, ← e)
 
 -- ---- a table: r is how many entries it lists
-pub count_within : (s : List ℕ) (k : ℕ) (r : Number) → r ≡ field_at c21 top 1 s k → (n : ℕ) (i : Cursor) → r ≡ Num n i → i.at ≤ length s
-count_within s k r read n i e = (field_got top s k c21 1 (sym read ∙ e)).3
+pub count_within : (s : List ℕ) (k : ℕ) (r : Read ℕ) → Ok r ≡ field_at c21 top 1 s k → r.next ≤ length s
+count_within s k r read = (field_got top s k c21 1 (sym read)).3
 
 module _ (s c w : List ℕ) (t : Table) (bit k : ℕ) (b : Bool) (is : b ≡ eqb bit 1) where
   abbrev table : Passed
   table = present_at t bit s k (vocabulary (unlisted c) w)
 
-  pub table_absent : (x : List ℕ) → Tidy s c w x → k ≤ length s → b ≡ false → (seen_passed (Behind k) c w ≡ table) × PassedLeft s c w (Behind k) c w x
+  pub table_absent : (x : List ℕ) → Tidy s c w x → k ≤ length s → b ≡ false → (seen_passed (Ok k) c w ≡ table) × PassedLeft s c w (Ok k) c w x
   unfolding present_at
   table_absent x tidy h z = rw (← is, z) (refl, left_here s c w x k tidy h)
 
-  module _ (there : b ≡ true) (r : Number) (read : r ≡ field_at c21 top 1 s k) where
-    pub table_refused : (x : List ℕ) (n p : ℕ) → k ≤ length s → r ≡ NoNum n p → (seen_passed (Refused n p) c w ≡ table) × PassedLeft s c w (Refused n p) c w x
+  module _ (there : b ≡ true) where
+    pub table_refused : (x : List ℕ) (f : Fault) → Err f ≡ field_at c21 top 1 s k → k ≤ length s → (seen_passed (Err f) c w ≡ table) × PassedLeft s c w (Err f) c w x
     unfolding present_at
-    table_refused x n p h e =
-        let f = field_refused top s k c21 1 (sym read ∙ e) in
-        rw (← is, there, ← read, e) (refl, (omega arith, omega arith))
+    table_refused x f read h =
+        let b = field_refused top s k c21 1 (sym read) in
+        rw (← is, there, ← read) (refl, (omega arith, omega arith))
 
-    pub table_read : (n : ℕ) (i : Cursor) → r ≡ Num n i → (g : Passed) → g ≡ entries_at link t s n i.at (vocabulary (unlisted c) w) → g ≡ table
+    pub table_read : (r : Read ℕ) → Ok r ≡ field_at c21 top 1 s k → (g : Passed) → g ≡ entries_at link t s r.value r.next (vocabulary (unlisted c) w) → g ≡ table
     unfolding present_at
-    table_read n i e g h = rw (← is, there, ← read, e) h
+    table_read r read g h = rw (← is, there, ← read) h
 
 -- ---- the ten tables
 -- by number, they are the ten in order; and below the presence bit of each are those of the tables behind it
@@ -99,11 +88,11 @@ one_table : (t : Table) (ts : List Table) (b : ℕ) (s : List ℕ) (k : ℕ) (v 
 unfolding tables_at present_at
 one_table t ts b s k v = by (eqb (b / 2 ^ length ts % 2) 1) (field_at c21 top 1 s k)
   where
-    by : (there : Bool) (r : Number)
+    by : (there : Bool) (r : Result (Read ℕ) Fault)
         → pick there (S.number r λ n next. then (entries_at link t s n next v) λ e k₁ v₁. tables_at link ts b s k₁ v₁) (tables_at link ts b s k v)
         ≡ then (pick there (S.number r λ n next. entries_at link t s n next v) (got tt k v)) λ e k₁ v₁. tables_at link ts b s k₁ v₁
-    by true (Num n c) = refl
-    by true (NoNum n p) = refl
+    by true (Ok r) = refl
+    by true (Err f) = refl
     by false r = refl
 
 module _ (b : ℕ) (s : List ℕ) (i k : ℕ) (v : Vocabulary Located) where

@@ -11,17 +11,20 @@ use borrow.Author.Tests.{lt-ltb, le-ltb, eq-eqb, ne_eqb, eqb-true}
 use lib.Dec.{eqb, ltb}
 use lib.ListN.{length, get_or, drop_of_length-le}
 use lib.Seq.{drop-cons}
+use Rattle.std.specs.Prelude.{Result, Ok}
 use Rattle.format.specs.Octets.{Octets, Words}
+use Rattle.format.specs.declared.refusals.Fault.{Fault}
+use Rattle.format.specs.declared.refusals.Refusal.TheVariants.{Padding, Structure}
 use Rattle.format.specs.Events.{End, for_end, ◌by◌}
 use Rattle.format.specs.Document.{halves, aligned}
 use Rattle.states.specs.declared.State.{State}
 use Rattle.states.specs.States.{mode_of, root_of, coming, after_end}
 use Rattle.states.proofs.Modes.{mode_content, mode_listing, mode_listed, by_mode}
-use Rattle.events.specs.declared.Event.{Event}
+use Rattle.events.specs.declared.Event as E
 use Rattle.events.specs.Records.{record_of, end_record}
 use Rattle.events.specs.Kept.{kept}
 use Rattle.read_items.specs.declared.Step.{Step}
-use Rattle.read_items.specs.declared.Step.TheVariants.{More, Quiet, Done}
+use Rattle.read_items.specs.declared.Step.TheVariants.{Event, Quiet, Done}
 use Rattle.read_items.specs.Items as I
 use Rattle.read_items.specs.Steps.{half_at, ends_at, pads_at, document_end, end_at, by_halves}
 use Rattle.read_items.specs.Promises.{Lent, lent, stand_of, Good, Met}
@@ -88,17 +91,17 @@ module _ (m : ℕ) where
 
 -- ---- the document's end
 module _ {s : Octets} {st : State} {n : ℕ} {a : Lent} (g : Good s st a) where
-  pub document_rootless : st.root ≡ 0 → Met s st n a (Stopped 15 (st.at / 2)) a (document_end s)
+  pub document_rootless : st.root ≡ 0 → Met s st n a (Stopped Structure (st.at / 2)) a (document_end s)
   unfolding document_end root_of
-  document_rootless h = refuse_here g (omega arith) (rw h)
+  document_rootless h = refuse_here g (rw h)
 
   module _ (h : st.root ≡ 0 → ⊥) where
-    pub document_padding : false ≡ pads_at s (st.at + 1) → Met s st n a (Stopped 6 (st.at / 2)) a (document_end s)
+    pub document_padding : false ≡ pads_at s (st.at + 1) → Met s st n a (Stopped Padding (st.at / 2)) a (document_end s)
     unfolding document_end root_of
-    document_padding e = let q = next_half _ _ _ e in refuse_here g (omega arith) (rw (ne_eqb _ _ h, q))
+    document_padding e = let q = next_half _ _ _ e in refuse_here g (rw (ne_eqb _ _ h, q))
 
     module _ (e : true ≡ pads_at s (st.at + 1)) where
-      pub document_done : st.at / 2 + 1 ≡ length s → Met s st n a (Done st 0) a (document_end s)
+      pub document_done : st.at / 2 + 1 ≡ length s → Met s st n a (Ok Done) a (document_end s)
       unfolding document_end aligned root_of
       document_done l =
           let q : suc st.at + suc st.at % 2 ≡ 2 * length s = omega arith in
@@ -106,32 +109,32 @@ module _ {s : Octets} {st : State} {n : ℕ} {a : Lent} (g : Good s st a) where
           let d : document_end s (stand_of st a) ≡ I.done = rw (ne_eqb _ _ h, z, eq-eqb _ _ q) in
           record { is = rw d; good = (refl, refl); keeps = rw d }
 
-      pub document_behind : (st.at / 2 + 1 ≡ length s → ⊥) → Met s st n a (Stopped 15 (st.at / 2 + 1)) a (document_end s)
+      pub document_behind : (st.at / 2 + 1 ≡ length s → ⊥) → Met s st n a (Stopped Structure (st.at / 2 + 1)) a (document_end s)
       unfolding document_end aligned root_of
       document_behind l =
           let q : suc st.at + suc st.at % 2 ≡ 2 * length s → ⊥ = λ z. l (omega arith) in
           let p : (suc st.at + suc st.at % 2) / 2 ≡ st.at / 2 + 1 = omega arith in
           let z = next_half _ _ _ e in
-          refuse_here g (omega arith) (rw (ne_eqb _ _ h, z, ne_eqb _ _ q, p))
+          refuse_here g (rw (ne_eqb _ _ h, z, ne_eqb _ _ q, p))
 
   -- ---- an end
-  pub end_listing : st.mode ≡ 1 → Met s st n a (Stopped 15 (st.at / 2)) a (λ m. end_at s m m.state.mode)
+  pub end_listing : st.mode ≡ 1 → Met s st n a (Stopped Structure (st.at / 2)) a (λ m. end_at s m m.state.mode)
   unfolding end_at
-  end_listing m = refuse_here g (omega arith) (rw (ap mode_of m ∙ mode_listing))
+  end_listing m = refuse_here g (rw (ap mode_of m ∙ mode_listing))
 
-  pub end_listed : st.mode ≡ 2 → st.at < 2 * length s → Met s st n a (Quiet (after_end st st.level) 0) a (λ m. end_at s m m.state.mode)
+  pub end_listed : st.mode ≡ 2 → st.at < 2 * length s → Met s st n a (Ok (Quiet (after_end st st.level))) a (λ m. end_at s m m.state.mode)
   unfolding end_at coming
   end_listed m l =
       let d : end_at s (stand_of st a) (mode_of st.mode) ≡ I.quiet (stand_of (after_end st st.level) a) = rw (ap mode_of m ∙ mode_listed, mode_content, add-one) in
       record { is = rw d; good = record { tidy = g.tidy; at = omega arith; shallow = let z = g.shallow in omega arith }; keeps = rw d }
 
-  pub end_document : {r : Step} → st.mode ≡ 0 → st.level ≡ 0 → Met s st n a r a (document_end s) → Met s st n a r a (λ m. end_at s m m.state.mode)
+  pub end_document : {r : Result Step Fault} → st.mode ≡ 0 → st.level ≡ 0 → Met s st n a r a (document_end s) → Met s st n a r a (λ m. end_at s m m.state.mode)
   unfolding end_at
   end_document m l p = let z : st.level ≤ 0 = omega arith in met_by p (rw (ap mode_of m ∙ mode_content, le-ltb _ _ z))
 
 module _ {s : Octets} {st : State} {n : ℕ} {t c : Words} {x : Octets} {r : Words} (g : Good s st (lent t c x r)) where
-  pub end_element : {r' : Words} {e : Event} → st.mode ≡ 0 → (st.level ≡ 0 → ⊥) → st.at < 2 * length s → r' ≡ kept r n (st.at / 2) e → e ≡ end_record
-      → Met s st n (lent t c x r) (More (after_end st (st.level - 1)) (st.at / 2)) (lent t c x r') (λ m. end_at s m m.state.mode)
+  pub end_element : {r' : Words} {e : E.Event} → st.mode ≡ 0 → (st.level ≡ 0 → ⊥) → st.at < 2 * length s → r' ≡ kept r n (st.at / 2) e → e ≡ end_record
+      → Met s st n (lent t c x r) (Ok (Event (after_end st (st.level - 1)) (st.at / 2))) (lent t c x r') (λ m. end_at s m m.state.mode)
   unfolding end_at coming record_of
   end_element m l h k q =
       let z : 0 < st.level = omega arith in

@@ -9,7 +9,10 @@ use native.Mathlib.Decide.{dec_lt, ℕ_discrete}
 use borrow.Author.Tests.{lt-ltb, le-ltb, le-leb, eq-eqb, ne_eqb}
 use lib.Dec.{ltb, eqb}
 use lib.ListN.{length, get_or}
+use Rattle.std.specs.Prelude.{Result, Ok, Err}
 use Rattle.format.specs.Octets.{Octets}
+use Rattle.format.specs.declared.refusals.Fault.{Fault}
+use Rattle.fields.specs.declared.Read.{Read}
 use Rattle.format.specs.Events.{Namespace, Start, Attribute, Text, Comment, Instruction, for_namespace, for_start, for_attribute, for_text, for_comment, for_instruction, ◌by◌}
 use Rattle.format.specs.Tables.{OTHER_NCNAME, ATTRIBUTE_VALUE, CONTENT_CHARACTER_CHUNK, OTHER_STRING, Vocabulary, link}
 use Rattle.format.specs.Strings.{c15}
@@ -26,31 +29,26 @@ use Rattle.states.proofs.Modes.{mode_content, mode_listing, mode_listed, mode_de
 use Rattle.events.specs.declared.EventString.{EventString}
 use Rattle.events.specs.declared.EventString.TheVariants.{Absent}
 use Rattle.events.specs.declared.Kind.TheVariants as K
-use Rattle.events.specs.declared.Event.{Event}
+use Rattle.events.specs.declared.Event as E
 use Rattle.events.specs.Records.{record_of, namespace_record, chunk_record, comment_record, instruction_record}
 use Rattle.events.specs.Kept.{kept}
-use Rattle.read_names.specs.declared.Entry.{Entry}
-use Rattle.read_names.specs.declared.Entry.TheVariants.{Got as Numbered, Refused as NotNumbered}
-use Rattle.read_names.specs.declared.Field.{Field}
-use Rattle.read_names.specs.declared.Field.TheVariants.{Got, Refused}
-use Rattle.read_names.specs.declared.Declaration.{Declaration}
-use Rattle.read_names.specs.declared.Declaration.TheVariants.{Got as Declares, Refused as NotDeclares}
+use Rattle.read_names.specs.declared.Binding.{Binding}
 use Rattle.read_names.specs.declared.Parts.{Parts}
 use Rattle.read_names.specs.Strings as S
 use Rattle.read_names.specs.Strings.{StringRead, id_at, literal_at, value_at}
 use Rattle.read_names.specs.Names.{NameRead, parts_at, numbered_at, name_at, declared_at}
-use Rattle.read_names.specs.Promises.{Seen, IdLeft, Positive, FieldLeft, DeclaredLeft, seen_id, id_seen, seen_field, string_seen, seen_name, name_seen, seen_declared, declared_seen, event_string_at, name_strings_at, NameThere}
+use Rattle.read_names.specs.Promises.{Seen, IdLeft, FieldLeft, DeclaredLeft, seen_id, id_seen, seen_field, string_seen, seen_name, name_seen, seen_declared, declared_seen, event_string_at, name_strings_at}
 use Rattle.read_names.proofs.Grown.{string_stays, name_stays}
 use Rattle.read_items.specs.declared.Step.{Step}
-use Rattle.read_items.specs.declared.Step.TheVariants.{More}
+use Rattle.read_items.specs.declared.Step.TheVariants.{Event}
 use Rattle.read_items.specs.Items as I
 use Rattle.read_items.specs.Items.{Stand, name_padding, start_of, namespace_at, element_at, named_at, attribute_at, chunk_at, comment_at, instruction_at, other_at, child_at, declaring_at, item_at}
 use Rattle.read_items.specs.Steps.{ends_at, pads_at, end_at, by_halves, step}
 use Rattle.read_items.specs.Promises.{Lent, stand_of, Good, Met, Meets}
 use Rattle.read_items.specs.HeadContracts.{start_by, attribute_by}
-use Rattle.read_items.specs.ItemContracts.{Stopped, named_record, start_step, start_records, StartsBy}
+use Rattle.read_items.specs.ItemContracts.{named_record, start_step, start_records, StartsBy}
 use Rattle.read_items.proofs.StepLaws.{refuse, tell}
-use Rattle.read_items.proofs.Fields.{as_string, id_not, id_is, string_not, string_is, name_not, name_is, declared_not, declared_is, moved_good, name_there}
+use Rattle.read_items.proofs.Fields.{as_string, id_not, id_is, string_not, string_is, name_is, declared_not, declared_is, moved_good}
 
 -- What a field that is read goes into.
 into_got : {B : Type 0} {g : S.Got B} {x : B} {next : ℕ} {w : Vocabulary Located} (f : B → ℕ → Vocabulary Located → I.Step) → g ≡ S.got x next w → I.into g f ≡ f x next w
@@ -58,68 +56,64 @@ into_got f e = rw e
 
 -- ---- chunks, comments
 -- A string's answer r stands for the definition's, g, and what was lent was a and is b.
-abbrev pub Says : Octets → Lent → Field → Lent → S.Got StringRead → Type 0
+abbrev pub Says : Octets → Lent → Result (Read EventString) Fault → Lent → S.Got StringRead → Type 0
 Says s a r b g = (seen_field r b.counts b.tables ≡ string_seen g) × FieldLeft s a.counts a.tables r b.counts b.tables b.index
 
-module _ {s : Octets} {st : State} {n : ℕ} {a b : Lent} (k : ℕ) {r : Field} where
-  module _ {m p : ℕ} (e : r ≡ Refused m p) (h : m < 0x1_0000_0000) (q : b.records ≡ a.records) where
-    pub chunk_refused : Says s a r b (literal_at link c15 s CONTENT_CHARACTER_CHUNK k (stand_of st a).state.tables) → Meets s st n a (Stopped m p) b (chunk_at link s k)
+module _ {s : Octets} {st : State} {n : ℕ} {a b : Lent} (k : ℕ) where
+  module _ {f : Fault} (q : b.records ≡ a.records) where
+    pub chunk_refused : Says s a (Err f) b (literal_at link c15 s CONTENT_CHARACTER_CHUNK k (stand_of st a).state.tables) → Meets s st n a (Err f) b (chunk_at link s k)
     unfolding chunk_at
-    chunk_refused y =
-        refuse (rw e at y.1) h q (rw (string_not (literal_at link c15 s CONTENT_CHARACTER_CHUNK k (stand_of st a).state.tables) b.counts b.tables e y.0))
+    chunk_refused y = refuse y.1 q (rw (string_not (literal_at link c15 s CONTENT_CHARACTER_CHUNK k (stand_of st a).state.tables) b.counts b.tables f y.0))
 
-    pub comment_refused : Says s a r b (value_at link s OTHER_STRING (k + 1) (stand_of st a).state.tables) → Meets s st n a (Stopped m p) b (comment_at link s k)
+    pub comment_refused : Says s a (Err f) b (value_at link s OTHER_STRING (k + 1) (stand_of st a).state.tables) → Meets s st n a (Err f) b (comment_at link s k)
     unfolding comment_at
-    comment_refused y =
-        refuse (rw e at y.1) h q (rw (string_not (value_at link s OTHER_STRING (suc k) (stand_of st a).state.tables) b.counts b.tables e (rw add-one at y.0)))
+    comment_refused y = refuse y.1 q (rw (string_not (value_at link s OTHER_STRING (suc k) (stand_of st a).state.tables) b.counts b.tables f (rw add-one at y.0)))
 
-  module _ {y : EventString} {next : ℕ} {f : Event} (e : r ≡ Got y next) (g : Good s st a) (q : b.records ≡ kept a.records n k f) where
-    pub chunk_more : f ≡ chunk_record y → Says s a r b (literal_at link c15 s CONTENT_CHARACTER_CHUNK k (stand_of st a).state.tables)
-        → Meets s st n a (More (moved_to st next st.mode) k) b (chunk_at link s k)
+  module _ (x : Read EventString) {e : E.Event} (g : Good s st a) (q : b.records ≡ kept a.records n k e) where
+    pub chunk_more : e ≡ chunk_record x.value → Says s a (Ok x) b (literal_at link c15 s CONTENT_CHARACTER_CHUNK k (stand_of st a).state.tables)
+        → Meets s st n a (Ok (Event (moved_to st x.next st.mode) k)) b (chunk_at link s k)
     unfolding chunk_at record_of
-    chunk_more z x =
-        let i = string_is (literal_at link c15 s CONTENT_CHARACTER_CHUNK k (stand_of st a).state.tables) b.counts b.tables e x.0 in
-        tell (Text i.what.string by for_text i.what.how) (moved_good st next st.mode (rw e at x.1) g.shallow) q (ap chunk_record i.seen ∙ sym z) (into_got _ i.is)
+    chunk_more z y =
+        let i = string_is (literal_at link c15 s CONTENT_CHARACTER_CHUNK k (stand_of st a).state.tables) b.counts b.tables x y.0 in
+        tell (Text i.what.string by for_text i.what.how) (moved_good st x.next st.mode y.1 g.shallow) q (ap chunk_record i.seen ∙ sym z) (into_got _ i.is)
 
-    pub comment_more : f ≡ comment_record y → Says s a r b (value_at link s OTHER_STRING (k + 1) (stand_of st a).state.tables)
-        → Meets s st n a (More (moved_to st next st.mode) k) b (comment_at link s k)
+    pub comment_more : e ≡ comment_record x.value → Says s a (Ok x) b (value_at link s OTHER_STRING (k + 1) (stand_of st a).state.tables)
+        → Meets s st n a (Ok (Event (moved_to st x.next st.mode) k)) b (comment_at link s k)
     unfolding comment_at record_of
-    comment_more z x =
-        let i = string_is (value_at link s OTHER_STRING (suc k) (stand_of st a).state.tables) b.counts b.tables e (rw add-one at x.0) in
-        tell (Comment i.what.string by for_comment i.what.how) (moved_good st next st.mode (rw e at x.1) g.shallow) q (ap comment_record i.seen ∙ sym z) (into_got _ i.is)
+    comment_more z y =
+        let i = string_is (value_at link s OTHER_STRING (suc k) (stand_of st a).state.tables) b.counts b.tables x (rw add-one at y.0) in
+        tell (Comment i.what.string by for_comment i.what.how) (moved_good st x.next st.mode y.1 g.shallow) q (ap comment_record i.seen ∙ sym z) (into_got _ i.is)
 
 -- ---- instructions
-module _ {s : Octets} {st : State} {n : ℕ} {a b : Lent} (k : ℕ) {r : Entry} where
-  pub target_refused : {m p : ℕ} → r ≡ NotNumbered m p → m < 0x1_0000_0000 → b.records ≡ a.records
-      → seen_id 3 r b.counts b.tables ≡ id_seen (id_at link s OTHER_NCNAME (k + 1) (stand_of st a).state.tables)
-      → IdLeft s a.counts a.tables 3 r b.counts b.tables b.index → Meets s st n a (Stopped m p) b (instruction_at link s k)
+module _ {s : Octets} {st : State} {n : ℕ} {a b : Lent} (k : ℕ) where
+  pub target_refused : {f : Fault} → b.records ≡ a.records
+      → seen_id 3 (Err f) b.counts b.tables ≡ id_seen (id_at link s OTHER_NCNAME (k + 1) (stand_of st a).state.tables)
+      → IdLeft s a.counts a.tables 3 (Err f) b.counts b.tables b.index → Meets s st n a (Err f) b (instruction_at link s k)
   unfolding instruction_at
-  target_refused e h q y l =
-      refuse (rw e at l) h q (rw (id_not (id_at link s OTHER_NCNAME (suc k) (stand_of st a).state.tables) 3 b.counts b.tables e (rw add-one at y)))
+  target_refused {f = f} q y l = refuse l q (rw (id_not (id_at link s OTHER_NCNAME (suc k) (stand_of st a).state.tables) 3 b.counts b.tables f (rw add-one at y)))
 
   -- The target is read, and what is lent then is c.
-  module _ (c : Lent) {m p : ℕ} (e : r ≡ Numbered m p)
-      (y : seen_id 3 r c.counts c.tables ≡ id_seen (id_at link s OTHER_NCNAME (k + 1) (stand_of st a).state.tables))
-      (l : IdLeft s a.counts a.tables 3 r c.counts c.tables c.index)
-      {f : Field} (x : Says s c f b (value_at link s OTHER_STRING p (vocabulary (unlisted c.counts) c.tables))) where
-    pub instruction_refused : {i o : ℕ} → f ≡ Refused i o → i < 0x1_0000_0000 → b.records ≡ a.records → Meets s st n a (Stopped i o) b (instruction_at link s k)
+  module _ (c : Lent) (t : Read ℕ)
+      (y : seen_id 3 (Ok t) c.counts c.tables ≡ id_seen (id_at link s OTHER_NCNAME (k + 1) (stand_of st a).state.tables))
+      (l : IdLeft s a.counts a.tables 3 (Ok t) c.counts c.tables c.index) where
+    pub instruction_refused : {f : Fault} → Says s c (Err f) b (value_at link s OTHER_STRING t.next (vocabulary (unlisted c.counts) c.tables))
+        → b.records ≡ a.records → Meets s st n a (Err f) b (instruction_at link s k)
     unfolding instruction_at
-    instruction_refused q h z =
-        let i = id_is (id_at link s OTHER_NCNAME (suc k) (stand_of st a).state.tables) 3 c.counts c.tables e (rw add-one at y) in
-        refuse (rw q at x.1) h z
-        (rw (i.is, string_not (value_at link s OTHER_STRING p (vocabulary (unlisted c.counts) c.tables)) b.counts b.tables q x.0))
+    instruction_refused {f = f} x z =
+        let i = id_is (id_at link s OTHER_NCNAME (suc k) (stand_of st a).state.tables) 3 c.counts c.tables t (rw add-one at y) in
+        refuse x.1 z (rw (i.is, string_not (value_at link s OTHER_STRING t.next (vocabulary (unlisted c.counts) c.tables)) b.counts b.tables f x.0))
 
-    pub instruction_more : {v : EventString} {next : ℕ} {u : Event} → f ≡ Got v next → Good s st a → b.records ≡ kept a.records n k u
-        → u ≡ instruction_record (event_string_at b.tables 3 m) v → Meets s st n a (More (moved_to st next st.mode) k) b (instruction_at link s k)
+    pub instruction_more : {v : Read EventString} {e : E.Event} → Says s c (Ok v) b (value_at link s OTHER_STRING t.next (vocabulary (unlisted c.counts) c.tables))
+        → Good s st a → b.records ≡ kept a.records n k e → e ≡ instruction_record (event_string_at b.tables 3 t.value) v.value
+        → Meets s st n a (Ok (Event (moved_to st v.next st.mode) k)) b (instruction_at link s k)
     unfolding instruction_at record_of
-    instruction_more {v = v} {next = next} q g z w =
-        let i = id_is (id_at link s OTHER_NCNAME (suc k) (stand_of st a).state.tables) 3 c.counts c.tables e (rw add-one at y) in
-        let j = string_is (value_at link s OTHER_STRING p (vocabulary (unlisted c.counts) c.tables)) b.counts b.tables q x.0 in
-        let left = rw q at x.1 in
-        let there = rw e at l in
+    instruction_more {v = v} x g z w =
+        let i = id_is (id_at link s OTHER_NCNAME (suc k) (stand_of st a).state.tables) 3 c.counts c.tables t (rw add-one at y) in
+        let j = string_is (value_at link s OTHER_STRING t.next (vocabulary (unlisted c.counts) c.tables)) b.counts b.tables v x.0 in
+        let left = x.1 in
         let text = ap (λ (z : Seen). z.text) i.seen in
-        let same = string_stays c.counts c.tables b.counts b.tables left.grown 3 m (omega arith) there.1 in
-        tell (Instruction i.what.string j.what.string by for_instruction i.what.how j.what.how) (moved_good st next st.mode left g.shallow) z
+        let same = string_stays c.counts c.tables b.counts b.tables left.grown 3 t.value (omega arith) l.1 in
+        tell (Instruction i.what.string j.what.string by for_instruction i.what.how j.what.how) (moved_good st v.next st.mode left g.shallow) z
         (rw (text, j.seen, ← same) (sym w))
         (into_got _ i.is ∙ into_got _ j.is)
 
@@ -154,23 +148,22 @@ unfolding name_padding
 padding_known b l o x = let p : b / 8 ≡ 7 = omega arith in let q : b / 4 ≡ 14 = omega arith in let y : b % 4 ≡ 0 → ⊥ = λ z. x (omega arith) in rw (p, q, ne_eqb _ _ y)
 
 -- ---- declarations
-module _ {s : Octets} {st : State} {n : ℕ} {a b : Lent} (k : ℕ) (l : Bool) {r : Declaration}
-    (y : seen_declared r b.counts b.tables ≡ declared_seen (declared_at link s k (stand_of st a).state.tables))
-    (z : DeclaredLeft s a.counts a.tables r b.counts b.tables b.index) where
-  pub namespace_refused : {m p : ℕ} → r ≡ NotDeclares m p → m < 0x1_0000_0000 → b.records ≡ a.records → Meets s st n a (Stopped m p) b (λ v. namespace_at link s k v l)
+module _ {s : Octets} {st : State} {n : ℕ} {a b : Lent} (k : ℕ) (l : Bool) where
+  pub namespace_refused : {f : Fault} → seen_declared (Err f) b.counts b.tables ≡ declared_seen (declared_at link s k (stand_of st a).state.tables)
+      → DeclaredLeft s a.counts a.tables (Err f) b.counts b.tables b.index → b.records ≡ a.records → Meets s st n a (Err f) b (λ v. namespace_at link s k v l)
   unfolding namespace_at
-  namespace_refused e h q = refuse (rw e at z) h q (rw (declared_not (declared_at link s k (stand_of st a).state.tables) b.counts b.tables e y))
+  namespace_refused {f = f} y z q = refuse z q (rw (declared_not (declared_at link s k (stand_of st a).state.tables) b.counts b.tables f y))
 
-  pub namespace_more : {p o next : ℕ} {f : Event} → r ≡ Declares p o next → st.level < 32 → b.records ≡ kept a.records n k f
-      → f ≡ namespace_record (event_string_at b.tables 0 p) (event_string_at b.tables 1 o)
-      → Meets s st n a (More (moved_to st next (declaring_mode l)) k) b (λ v. namespace_at link s k v l)
+  pub namespace_more : {x : Read Binding} {e : E.Event} → seen_declared (Ok x) b.counts b.tables ≡ declared_seen (declared_at link s k (stand_of st a).state.tables)
+      → DeclaredLeft s a.counts a.tables (Ok x) b.counts b.tables b.index → st.level < 32 → b.records ≡ kept a.records n k e
+      → e ≡ namespace_record (event_string_at b.tables 0 x.value.prefix) (event_string_at b.tables 1 x.value.namespace)
+      → Meets s st n a (Ok (Event (moved_to st x.next (declaring_mode l)) k)) b (λ v. namespace_at link s k v l)
   unfolding namespace_at record_of
-  namespace_more {next = next} e h q w =
-      let i = declared_is (declared_at link s k (stand_of st a).state.tables) b.counts b.tables e y in
-      let left = rw e at z in
+  namespace_more {x = x} y z h q w =
+      let i = declared_is (declared_at link s k (stand_of st a).state.tables) b.counts b.tables x y in
       let c = declaring_coming l in
       tell (Namespace i.what.prefix i.what.namespace by for_namespace i.what.prefix_how i.what.namespace_how)
-      (moved_good st next (declaring_mode l) left.0 (omega arith)) q (ap (λ (x : Parts). namespace_record x.prefix x.namespace) i.seen ∙ sym w)
+      (moved_good st x.next (declaring_mode l) z.0 (omega arith)) q (ap (λ (x : Parts). namespace_record x.prefix x.namespace) i.seen ∙ sym w)
       (into_got _ i.is ∙ rw (mode_declaring l))
 
 -- ---- a Start
@@ -179,13 +172,12 @@ unfolding start_by link
 start_shallow k l v (S.got x next w) h = rw (lt-ltb _ _ h)
 start_shallow k l v (S.refused n p) h = refl
 
-module _ {s : Octets} {st : State} {n : ℕ} {a b : Lent} {d : Stand → I.Step} {y : Step} (k : ℕ) (l : Bool) (g : S.Got NameRead) where
-  pub start_met : (r : Entry) → seen_name 8 r b.counts b.tables ≡ name_seen g → IdLeft s a.counts a.tables 8 r b.counts b.tables b.index
-      → StartsBy st k l b.tables r a.records n y b.records → d (stand_of st a) ≡ start_by k l (stand_of st a).state g → Met s st n a y b d
+module _ {s : Octets} {st : State} {n : ℕ} {a b : Lent} {d : Stand → I.Step} {y : Result Step Fault} (k : ℕ) (l : Bool) (g : S.Got NameRead) where
+  pub start_met : (x : Read ℕ) → seen_name 8 (Ok x) b.counts b.tables ≡ name_seen g → IdLeft s a.counts a.tables 8 (Ok x) b.counts b.tables b.index
+      → StartsBy st k l b.tables x a.records n y b.records → d (stand_of st a) ≡ start_by k l (stand_of st a).state g → Met s st n a y b d
   unfolding start_by start_step start_records record_of link
-  start_met (NotNumbered m p) q z j e = rw j.is (refuse z (rw j.is at j.fits) j.keeps (e ∙ rw (name_not g 8 b.counts b.tables {r = NotNumbered m p} refl q)))
-  start_met (Numbered m next) q z j e =
-      let i = name_is g 8 b.counts b.tables {r = Numbered m next} refl q in
+  start_met x q z j e =
+      let i = name_is g 8 b.counts b.tables x q in
       elim (dec_lt st.level 32) [
         | yes h ↦
             let is = rw (lt-ltb _ _ h) at j.is in
@@ -198,7 +190,7 @@ module _ {s : Octets} {st : State} {n : ℕ} {a b : Lent} {d : Stand → I.Step}
         | no h ↦
             let is = rw (le-ltb st.level 32 (omega arith)) at j.is in
             let keeps = rw (le-ltb st.level 32 (omega arith)) at j.keeps in
-            rw is (refuse (z.0.tidy.ten, z.0.tidy.room) (omega arith) keeps (e ∙ into_got _ i.is ∙ rw (le-ltb st.level 32 (omega arith))))
+            rw is (refuse (z.0.tidy.ten, z.0.tidy.room) keeps (e ∙ into_got _ i.is ∙ rw (le-ltb st.level 32 (omega arith))))
       ]
 
 -- ---- an element by its six bits
@@ -295,48 +287,30 @@ module _ (s : Octets) (k : ℕ) (v : F.State Located) where
       unfolding attribute_at
       attribute_named n = let l = low in let m : get_or s k 0 < 0x7C = omega arith in rw (lt-ltb _ _ h, lt-ltb _ _ l, lt-ltb _ _ m)
 
-module _ {s : Octets} {st : State} {n : ℕ} {a b : Lent} (k : ℕ) {d : Stand → I.Step} (w : d (stand_of st a) ≡ attribute_by s k (stand_of st a).state) {r : Entry} where
-  pub attribute_refused : {m p : ℕ} → r ≡ NotNumbered m p → m < 0x1_0000_0000 → b.records ≡ a.records
-      → seen_name 9 r b.counts b.tables ≡ name_seen (name_at link of_attribute s (get_or s k 0) k (stand_of st a).state.tables)
-      → IdLeft s a.counts a.tables 9 r b.counts b.tables b.index → Met s st n a (Stopped m p) b d
-  attribute_refused e h q y l =
-      refuse (rw e at l) h q (w ∙ rw (name_not (name_at link of_attribute s (get_or s k 0) k (stand_of st a).state.tables) 9 b.counts b.tables e y))
+-- The name is read, and what is lent then is c; what is left is the value.
+module _ {s : Octets} {st : State} {n : ℕ} {a b : Lent} (k : ℕ) {d : Stand → I.Step} (w : d (stand_of st a) ≡ attribute_by s k (stand_of st a).state)
+    (c : Lent) (m : Read ℕ)
+    (y : seen_name 9 (Ok m) c.counts c.tables ≡ name_seen (name_at link of_attribute s (get_or s k 0) k (stand_of st a).state.tables))
+    (l : IdLeft s a.counts a.tables 9 (Ok m) c.counts c.tables c.index) where
+  pub value_refused : {f : Fault} → Says s c (Err f) b (value_at link s ATTRIBUTE_VALUE m.next (vocabulary (unlisted c.counts) c.tables))
+      → b.records ≡ a.records → Met s st n a (Err f) b d
+  value_refused {f = f} x z =
+      let i = name_is (name_at link of_attribute s (get_or s k 0) k (stand_of st a).state.tables) 9 c.counts c.tables m y in
+      refuse x.1 z (w ∙ rw (i.is, string_not (value_at link s ATTRIBUTE_VALUE m.next (vocabulary (unlisted c.counts) c.tables)) b.counts b.tables f x.0))
 
-  -- The name is read, and what is lent then is c.
-  module _ (c : Lent) {m p : ℕ} (e : r ≡ Numbered m p)
-      (y : seen_name 9 r c.counts c.tables ≡ name_seen (name_at link of_attribute s (get_or s k 0) k (stand_of st a).state.tables))
-      (l : IdLeft s a.counts a.tables 9 r c.counts c.tables c.index) (o : Positive r)
-      {f : Field} (x : Says s c f b (value_at link s ATTRIBUTE_VALUE p (vocabulary (unlisted c.counts) c.tables))) where
-    pub value_refused : {i q : ℕ} → f ≡ Refused i q → i < 0x1_0000_0000 → b.records ≡ a.records → Met s st n a (Stopped i q) b d
-    value_refused q h z =
-        let i = name_is (name_at link of_attribute s (get_or s k 0) k (stand_of st a).state.tables) 9 c.counts c.tables e y in
-        refuse (rw q at x.1) h z
-        (w ∙ rw (i.is, string_not (value_at link s ATTRIBUTE_VALUE p (vocabulary (unlisted c.counts) c.tables)) b.counts b.tables q x.0))
-
-    pub attribute_more : {v : EventString} {next : ℕ} → f ≡ Got v next → Good s st a
-        → b.records ≡ kept a.records n k (named_record K.Attribute (name_strings_at b.tables 9 m) v) → Met s st n a (More (moved_to st next 2) k) b d
-    unfolding record_of coming
-    attribute_more {v = v} {next = next} q g z =
-        let i = name_is (name_at link of_attribute s (get_or s k 0) k (stand_of st a).state.tables) 9 c.counts c.tables e y in
-        let j = string_is (value_at link s ATTRIBUTE_VALUE p (vocabulary (unlisted c.counts) c.tables)) b.counts b.tables q x.0 in
-        let left = rw q at x.1 in
-        let there = rw e at l in
-        let from = rw e at o in
-        let same = name_stays s c.counts c.tables c.index there.0.tidy 9 m (omega arith) (omega arith) from there.1 b.counts b.tables left.grown in
-        let h = g.shallow in
-        tell (Attribute i.what.name j.what.string by for_attribute i.what.how j.what.how) (moved_good st next 2 left (omega arith)) z
-        (ap (λ (u : Parts). named_record K.Attribute u (as_string j.what)) (i.seen ∙ sym same) ∙ ap (named_record K.Attribute (name_strings_at b.tables 9 m)) j.seen)
-        (w ∙ into_got _ i.is ∙ into_got _ j.is ∙ rw mode_listed)
-
--- The name's strings are still there behind the value.
-pub attribute_there : (s : Octets) (a c b : Lent) {r : Entry} {m p : ℕ} → r ≡ Numbered m p → IdLeft s a.counts a.tables 9 r c.counts c.tables c.index → Positive r
-    → {f : Field} {v : EventString} {next : ℕ} → f ≡ Got v next → FieldLeft s c.counts c.tables f b.counts b.tables b.index → NameThere b.tables 9 m
-attribute_there s a c b {m = m} e l o q x =
-    let left = rw q at x in
-    let there = rw e at l in
-    let more = left.grown.counts 9 in
-    let last = there.1 in
-    name_there left.tidy 9 m (omega arith) (omega arith) (rw e at o) (omega arith)
+  pub attribute_more : {v : Read EventString} → Says s c (Ok v) b (value_at link s ATTRIBUTE_VALUE m.next (vocabulary (unlisted c.counts) c.tables))
+      → 1 ≤ m.value → Good s st a → b.records ≡ kept a.records n k (named_record K.Attribute (name_strings_at b.tables 9 m.value) v.value)
+      → Met s st n a (Ok (Event (moved_to st v.next 2) k)) b d
+  unfolding record_of coming
+  attribute_more {v = v} x o g z =
+      let i = name_is (name_at link of_attribute s (get_or s k 0) k (stand_of st a).state.tables) 9 c.counts c.tables m y in
+      let j = string_is (value_at link s ATTRIBUTE_VALUE m.next (vocabulary (unlisted c.counts) c.tables)) b.counts b.tables v x.0 in
+      let left = x.1 in
+      let same = name_stays s c.counts c.tables c.index l.0.tidy 9 m.value (omega arith) (omega arith) o l.1 b.counts b.tables left.grown in
+      let h = g.shallow in
+      tell (Attribute i.what.name j.what.string by for_attribute i.what.how j.what.how) (moved_good st v.next 2 left (omega arith)) z
+      (ap (λ (u : Parts). named_record K.Attribute u (as_string j.what)) (i.seen ∙ sym same) ∙ ap (named_record K.Attribute (name_strings_at b.tables 9 m.value)) j.seen)
+      (w ∙ into_got _ i.is ∙ into_got _ j.is ∙ rw mode_listed)
 
 -- ---- children
 module _ (s : Octets) (k : ℕ) (v : F.State Located) where

@@ -1,6 +1,9 @@
--- Contracts of the code, not definitions to be believed. How a step's answer stands for the reading definition, and what the reader keeps in order from step to step.
-use Rattle.std.specs.Prelude.{ℕ, ◌+◌, ◌*◌, ◌≤◌, ◌<◌, ◌≡◌, length}
+-- Contracts of the code, not definitions to be believed. How a step's answer stands for the reading definition, and
+-- what the reader keeps in order from step to step.
+use Rattle.std.specs.Prelude.{ℕ, ◌+◌, ◌*◌, ◌≤◌, ◌≡◌, length, Result, Ok, Err}
 use Rattle.format.specs.Octets.{Octets, Words}
+use Rattle.format.specs.Refusals.{refusal_number}
+use Rattle.format.specs.declared.refusals.Fault.{Fault}
 use Rattle.format.specs.Items as F
 use Rattle.tables.specs.Located.{Located}
 use Rattle.tables.specs.Rows.{vocabulary}
@@ -11,7 +14,7 @@ use Rattle.events.specs.Records.{record_of}
 use Rattle.events.specs.Kept.{kept}
 use Rattle.read_names.specs.Promises.{Tidy, Rooms}
 use Rattle.read_items.specs.declared.Step.{Step}
-use Rattle.read_items.specs.declared.Step.TheVariants.{More, Quiet, Done, Stop}
+use Rattle.read_items.specs.declared.Step.TheVariants.{Event, Quiet, Done}
 use Rattle.read_items.specs.Items as I
 use Rattle.read_items.specs.Items.{Stand}
 
@@ -35,11 +38,11 @@ pub data SeenStep : Type 0 where
   done : SeenStep
   stop : (number place : ℕ) → SeenStep
 
-abbrev pub seen_step : Step → Lent → SeenStep
-seen_step (More st p) b = more p (stand_of st b)
-seen_step (Quiet st k) b = quiet (stand_of st b)
-seen_step (Done st k) b = done
-seen_step (Stop st n) b = stop n st.at
+abbrev pub seen_step : Result Step Fault → Lent → SeenStep
+seen_step (Ok (Event st p)) b = more p (stand_of st b)
+seen_step (Ok (Quiet st)) b = quiet (stand_of st b)
+seen_step (Ok Done) b = done
+seen_step (Err f) b = stop (refusal_number f.refusal) f.at
 
 abbrev pub step_seen : I.Step → SeenStep
 step_seen (I.more p i m) = more p m
@@ -60,18 +63,18 @@ pub record Good (s : Octets) (st : State) (a : Lent) : Type 0 where
   pub at : st.at ≤ 2 * length s
   pub shallow : st.level + coming st.mode ≤ 32
 
-abbrev pub StepGood : Octets → Lent → Step → Lent → Type 0
-StepGood s a (More st p) b = Good s st b
-StepGood s a (Quiet st k) b = Good s st b
-StepGood s a (Done st k) b = (b.counts ≡ a.counts) × (b.tables ≡ a.tables)
-StepGood s a (Stop st n) b = Rooms b.counts b.tables × (n < 0x1_0000_0000)
+abbrev pub StepGood : Octets → Lent → Result Step Fault → Lent → Type 0
+StepGood s a (Ok (Event st p)) b = Good s st b
+StepGood s a (Ok (Quiet st)) b = Good s st b
+StepGood s a (Ok Done) b = (b.counts ≡ a.counts) × (b.tables ≡ a.tables)
+StepGood s a (Err f) b = Rooms b.counts b.tables
 
 -- What was lent was a and is b: the answer stands for the definition's, what it leaves is in order, and its event is kept.
-pub record Met (s : Octets) (st : State) (n : ℕ) (a : Lent) (r : Step) (b : Lent) (d : Stand → I.Step) : Type 0 where
+pub record Met (s : Octets) (st : State) (n : ℕ) (a : Lent) (r : Result Step Fault) (b : Lent) (d : Stand → I.Step) : Type 0 where
   pub is : seen_step r b ≡ step_seen (d (stand_of st a))
   pub good : StepGood s a r b
   pub keeps : b.records ≡ kept_by a.records n (d (stand_of st a))
 
 -- The same of a definition that does not ask at which half the reader stands.
-abbrev pub Meets : Octets → State → ℕ → Lent → Step → Lent → (F.State Located → I.Step) → Type 0
+abbrev pub Meets : Octets → State → ℕ → Lent → Result Step Fault → Lent → (F.State Located → I.Step) → Type 0
 Meets s st n a r b d = Met s st n a r b (λ m. d m.state)

@@ -5,9 +5,8 @@ ghost use Rattle.read_items.specs.Steps.{half_at, ends_at, pads_at, document_end
 ghost use Rattle.read_items.specs.ItemContracts.{Keeps, Ended};
 
 use crate::Step;
-use crate::items::stop;
 use fields::bits;
-use format::refusals::{PADDING, STRUCTURE};
+use format::refusals::{Fault, Refusal};
 use states::State;
 
 // The half at a place counted in halves, 16 behind the last.
@@ -45,40 +44,40 @@ pub fn ends_here(st: State, s: &[u8]) -> bool
 }
 
 // The end of all: there was a root, the octet is filled up, and nothing follows.
-fn document_end(st: State, s: &[u8]) -> Step
+fn document_end(st: State, s: &[u8]) -> Result<Step, Fault>
     requires { st.at < 32768 }
     ensures { (n : ℕ) → Keeps s.now st n result (document_end s.now) }
 {
     let at = st.at;
     if st.root == 0 {
-        return stop(STRUCTURE, at / 2);
+        return Err(Refusal::Structure.at(at / 2));
     }
     if !pads_at(s, at + 1) {
-        return stop(PADDING, at / 2);
+        return Err(Refusal::Padding.at(at / 2));
     }
     let behind = at / 2 + 1;
     if behind == s.len() {
-        return Step::Done(st, 0);
+        return Ok(Step::Done);
     }
-    stop(STRUCTURE, behind)
+    Err(Refusal::Structure.at(behind))
 }
 
-// What the half 1111 ends: an attribute list that has a member, and no event says so; an element; the document. Among declarations none is looked for.
-pub fn end_at(st: State, s: &[u8], records: &mut [u32], n: usize) -> Step
+// What the half 1111 ends: an attribute list that has a member, and no event says so; an element; the document. Among
+// declarations none is looked for.
+pub fn end_at(st: State, s: &[u8], records: &mut [u32], n: usize) -> Result<Step, Fault>
     requires { (st.at < 2 * length s.now) × (length s.now ≤ 16384) × (st.mode < 3) }
     ensures { Ended s.now st n records.old result records.new }
 {
     if st.mode == State::LISTING {
-        return stop(STRUCTURE, st.at / 2);
+        return Err(Refusal::Structure.at(st.at / 2));
     }
     if st.mode == State::LISTED {
-        return Step::Quiet(st.behind_end(st.level), 0);
+        return Ok(Step::Quiet(st.behind_end(st.level)));
     }
     if st.level == 0 {
         return document_end(st, s);
     }
-    let e = events::end();
     let k = st.at / 2;
-    events::keep(records, n, k, e);
-    Step::More(st.behind_end(st.level - 1), k)
+    events::keep(records, n, k, events::end());
+    Ok(Step::Event(st.behind_end(st.level - 1), k))
 }

@@ -7,12 +7,11 @@ pub mod items;
 
 use states::State;
 
-// Where the reader stands behind an event, and the event's place; behind an end that is no event; at the document's end; a refusal's number, and a state
-// whose `at` is the refusal's octet. All variants have one layout, so that an answer is moved whole.
+// Where the reader stands after an event, and the event's place; where it stands after an end that is no event; the
+// document's end.
 #[derive(Clone, Copy)]
 pub enum Step {
-    More(State, usize),
-    Quiet(State, usize),
-    Done(State, usize),
-    Stop(State, usize),
+    Event(State, usize),
+    Quiet(State),
+    Done,
 }

@@ -8,7 +8,10 @@ use native.Mathlib.Omega.{arith}
 use native.Mathlib.Decide.{ℕ_discrete}
 use borrow.Author.Tests.{lt-ltb, le-ltb, le-leb, lt-leb}
 use lib.ListN.{length, get_or, set}
+use Rattle.std.specs.Prelude.{Result, Ok, Err}
+use Rattle.format.specs.declared.refusals.Fault.{Fault}
 use Rattle.format.specs.Tables.{StringTable, Triple, names}
+use Rattle.fields.specs.declared.Read.{Read}
 use Rattle.tables.specs.declared.Counts.{Counts}
 use Rattle.tables.specs.Rows.{table_of, string_at, triple_at, vocabulary}
 use Rattle.tables.specs.Kept.{name_table_of, triple_of, unlisted, count_of, Counted, row_at, stored}
@@ -18,8 +21,6 @@ use Rattle.index.proofs.Counted.{count_at, one_more-words}
 use Rattle.events.specs.Records.{event_string}
 use Rattle.read_names.specs.Names.{no_triple}
 use Rattle.read_names.specs.Promises.{Ranged, searched, Tidy, Grown, event_string_at, event_strings_at, name_strings_at, IdLeft}
-use Rattle.read_names.specs.declared.Entry.{Entry}
-use Rattle.read_names.specs.declared.Entry.TheVariants.{Got as Numbered, Refused as NotNumbered}
 
 -- ---- the tables that are searched
 pub searched_string : (t : ℕ) → t < 5 → searched t ≡ true
@@ -114,6 +115,6 @@ module _ (s c w x : List ℕ) (tidy : Tidy s c w x) (t n : ℕ) (low : 8 ≤ t) 
       (strings_stay c w d v g (triple_at w (768 * t + 3 * (n - 1))) name_ranged)
 
 -- ---- what is left behind two fields
-pub left_on : (s c w d v e u x : List ℕ) (t : ℕ) (r : Entry) → Grown c w d v → IdLeft s d v t r e u x → IdLeft s c w t r e u x
-left_on s c w d v e u x t (Numbered n at) g l = (record { tidy = l.0.tidy; within = l.0.within; grown = grown_on c w d v e u g l.0.grown }, l.1)
-left_on s c w d v e u x t (NotNumbered n p) g l = l
+pub left_on : (s c w d v e u x : List ℕ) (t : ℕ) (r : Result (Read ℕ) Fault) → Grown c w d v → IdLeft s d v t r e u x → IdLeft s c w t r e u x
+left_on s c w d v e u x t (Ok r) g l = (record { tidy = l.0.tidy; within = l.0.within; grown = grown_on c w d v e u g l.0.grown }, l.1)
+left_on s c w d v e u x t (Err f) g l = l

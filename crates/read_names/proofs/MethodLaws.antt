@@ -1,70 +1,45 @@
 -- A law for each answer of the functions that read the number of an alphabet or an algorithm and the length behind it, on plain values. Such a length starts at bit 5, 6 or 7.
 -- Assumes nothing.
 use mathlib.Core.Path.{◌≡◌, refl, sym, ◌∙◌}
-use mathlib.Core.Bool.{Bool, true, false}
+use mathlib.Core.Bool.{Bool, true}
 use mathlib.Core.List.{List}
 use Prim.Native.Nat.{ℕ, suc, ◌+◌, ◌-◌, ◌*◌, ◌/◌, ◌%◌, ◌^◌, ◌≤◌, ◌<◌}
 use native.Mathlib.Omega.{arith}
 use native.Mathlib.Numerals.{add-one}
-use borrow.Author.Tests.{eq-eqb, ne_eqb, lt-ltb, le-ltb, le-leb, lt-leb, leb-true}
+use borrow.Author.Tests.{lt-ltb, le-ltb, leb-true}
 use lib.Dec.{ltb, leb, eqb}
 use lib.ListN.{length, get_or}
-use Rattle.fields.specs.declared.Number.{Number}
-use Rattle.fields.specs.declared.Number.TheVariants.{Got as Num, Refused as NoNum}
+use Rattle.std.specs.Prelude.{Result, Ok, Err}
+use Rattle.format.specs.declared.refusals.Fault.{Fault}
+use Rattle.fields.specs.declared.Read.{Read}
 use Rattle.fields.specs.Fields.{bits_of, value_from}
 use Rattle.tables.proofs.ByNumber.{by_number_lem}
 use Rattle.read_names.specs.Strings.{method_at, is_read, method_behind, method_length}
 use Rattle.read_names.specs.StringContracts.{LengthRead}
 use Rattle.read_names.proofs.StringLaws.{tests}
 
--- ---- which alphabets and algorithms are read
-module _ (f m : ℕ) where
-  pub alphabet-read : f ≡ 2 → ltb m 2 ≡ is_read f m
-  unfolding is_read
-  alphabet-read e = rw (eq-eqb _ _ e)
-
-  module _ (other : f ≡ 2 → ⊥) where
-    pub algorithm_low : m < 2 → false ≡ is_read f m
-    unfolding is_read
-    algorithm_low h = rw (ne_eqb _ _ other, lt-leb _ _ h)
-
-    pub algorithm_read : 2 ≤ m → ltb m 5 ≡ is_read f m
-    unfolding is_read
-    algorithm_read h = rw (ne_eqb _ _ other, le-leb _ _ h)
-
 -- ---- what stands behind the number's octets: a length n, with `more` octets
-module _ (bit f : ℕ) (s : List ℕ) (k more n : ℕ) (clean : Bool) where
-  pub method_past : length s < k + 2 + more + n → NoNum 2 k ≡ method_behind bit f s k more n clean
-  unfolding method_behind
-  method_past h = rw (lt-leb _ _ h)
+abbrev LengthIn : List ℕ → Result (Read ℕ) Fault → Type 0
+LengthIn s (Ok r) = LengthRead s r
+LengthIn s (Err f) = Unit {0}
 
-  behind-read : 1 ≤ n → LengthRead s (method_behind bit f s k more n clean)
+module _ (bit f : ℕ) (s : List ℕ) (k more n : ℕ) (clean : Bool) where
+  behind-read : 1 ≤ n → LengthIn s (method_behind bit f s k more n clean)
   unfolding method_behind
   behind-read h =
-      tests (LengthRead s) (leb (k + 2 + more + n) (length s)) _ _
+      tests (LengthIn s) (leb (k + 2 + more + n) (length s)) _ _
       (λ e. let l : k + 2 + more + n ≤ length s = leb-true _ _ e in
-      tests (LengthRead s) (is_read f (method_at bit s k)) _ _ (λ _. tests (LengthRead s) clean _ _ (λ _. (h, omega arith)) (λ _. tt)) (λ _. tt))
+      tests (LengthIn s) (is_read f (method_at bit s k)) _ _ (λ _. tests (LengthIn s) clean _ _ (λ _. (h, omega arith)) (λ _. tt)) (λ _. tt))
       (λ _. tt)
 
-  module _ (there : k + 2 + more + n ≤ length s) where
-    pub method_other : is_read f (method_at bit s k) ≡ false → NoNum 8 k ≡ method_behind bit f s k more n clean
-    unfolding method_behind
-    method_other h = rw (le-leb _ _ there, h)
-
-    pub method_padding : is_read f (method_at bit s k) ≡ true → clean ≡ false → NoNum 6 k ≡ method_behind bit f s k more n clean
-    unfolding method_behind
-    method_padding h e = rw (le-leb _ _ there, h, e)
-
-    pub method_got : is_read f (method_at bit s k) ≡ true → clean ≡ true → (m : ℕ) → m ≡ n → Num m (record { at = k + 2 + more }) ≡ method_behind bit f s k more n clean
-    unfolding method_behind
-    method_got h e m q = rw (le-leb _ _ there, h, e, q)
-
-pub method_read : (bit f : ℕ) (s : List ℕ) (k b : ℕ) (r : Number) → r ≡ method_length bit f s k b → LengthRead s r
+method_in : (bit f : ℕ) (s : List ℕ) (k b : ℕ) → LengthIn s (method_length bit f s k b)
 unfolding method_length
-method_read bit f s k b r e =
-    rw e
-    (tests (LengthRead s) (ltb b (2 ^ (8 - bit))) _ _ (λ _. behind-read bit f s k 0 _ _ (omega arith))
-    (λ _. tests (LengthRead s) (ltb b (3 * 2 ^ (7 - bit))) _ _ (λ _. behind-read bit f s k 1 _ _ (omega arith)) (λ _. behind-read bit f s k 4 _ _ (omega arith))))
+method_in bit f s k b =
+    tests (LengthIn s) (ltb b (2 ^ (8 - bit))) _ _ (λ _. behind-read bit f s k 0 _ _ (omega arith))
+    (λ _. tests (LengthIn s) (ltb b (3 * 2 ^ (7 - bit))) _ _ (λ _. behind-read bit f s k 1 _ _ (omega arith)) (λ _. behind-read bit f s k 4 _ _ (omega arith)))
+
+pub method_read : (bit f : ℕ) (s : List ℕ) (k b : ℕ) (r : Read ℕ) → Ok r ≡ method_length bit f s k b → LengthRead s r
+method_read bit f s k b r e = rw (← e) at (method_in bit f s k b)
 
 -- ---- the bits of one octet
 module _ (bit : ℕ) (from : 5 ≤ bit) (to : bit ≤ 7) where
@@ -72,9 +47,6 @@ module _ (bit : ℕ) (from : 5 ≤ bit) (to : bit ≤ 7) where
   by_bit P a b c = by_number_lem P 5 3 (a, (b, (c, tt))) bit from (omega arith)
 
   -- the number, from two octets a and b
-  pub low_few : (b : ℕ) → b < 256 → b / 2 ^ (9 - bit) < 256
-  low_few b h = by_bit (λ (k : ℕ). b / 2 ^ (9 - k) < 256) (omega arith) (omega arith) (omega arith)
-
   number_is : (a b : ℕ) → b < 256 → (bits_of a bit 8 * 2 ^ (bit - 1) % 4294967296 ≡ a % 2 ^ (9 - bit) * 2 ^ (bit - 1)) × (a % 2 ^ (9 - bit) * 2 ^ (bit - 1) + b / 2 ^ (9 - bit) < 256)
   number_is a b h =
       by_bit (λ (k : ℕ). (bits_of a k 8 * 2 ^ (k - 1) % 4294967296 ≡ a % 2 ^ (9 - k) * 2 ^ (k - 1)) × (a % 2 ^ (9 - k) * 2 ^ (k - 1) + b / 2 ^ (9 - k) < 256))
@@ -94,7 +66,7 @@ module _ (bit : ℕ) (from : 5 ≤ bit) (to : bit ≤ 7) where
   last_bits o = by_bit (λ (k : ℕ). bits_of o k 8 ≡ o % 2 ^ (9 - k)) (omega arith) (omega arith) (omega arith)
 
   -- b are the length's bits in its first octet o
-  module _ (f : ℕ) (s : List ℕ) (k o b h : ℕ) (is : o ≡ get_or s (k + 1) 0) (eb : b ≡ bits_of o bit 8) (eh : h ≡ 1 * 2 ^ (7 - bit) % 18446744073709551616) (r : Number) where
+  module _ (f : ℕ) (s : List ℕ) (k o b h : ℕ) (is : o ≡ get_or s (k + 1) 0) (eb : b ≡ bits_of o bit 8) (eh : h ≡ 1 * 2 ^ (7 - bit) % 18446744073709551616) (r : Result (Read ℕ) Fault) where
     these : get_or s (suc k) 0 % 2 ^ (9 - bit) ≡ b
     these = rw (← add-one k, ← is) (sym (last_bits o) ∙ sym eb)
 

@@ -10,7 +10,11 @@ use native.Mathlib.Decide.{dec_lt}
 use borrow.Author.Tests.{lt-ltb, le-ltb, le-leb, lt-leb, eq-eqb, ne_eqb}
 use lib.Dec.{eqb, ltb, leb}
 use lib.ListN.{length, get_or, set}
+use Rattle.std.specs.Prelude.{Result, Ok, Err}
 use Rattle.format.specs.Numbers.{pick, numbers, c25, lengths, top}
+use Rattle.format.specs.Refusals.{refusal_number}
+use Rattle.format.specs.declared.refusals.Fault.{Fault}
+use Rattle.format.specs.declared.refusals.Refusal.TheVariants.{Repeat, Full}
 use Rattle.fields.specs.Utf8.{is_text}
 use Rattle.format.specs.Tables.{StringTable, PREFIX, NAMESPACE_NAME, LOCAL_NAME}
 use Rattle.format.specs.Tables.{NameTable, ELEMENT_NAME, ATTRIBUTE_NAME, Triple, Vocabulary, strings, names, adding_name}
@@ -18,9 +22,8 @@ use Rattle.format.specs.Tables.{holds, holds_name, same_triple, link}
 use Rattle.format.specs.Names.{NameLayout, of_element, of_attribute}
 use Rattle.format.specs.Events.{by_number}
 use Rattle.format.specs.declared.StringForm.TheVariants.{Utf8}
-use Rattle.fields.specs.declared.Cursor.{Cursor}
-use Rattle.fields.specs.declared.Number.{Number}
-use Rattle.fields.specs.declared.Number.TheVariants.{Got as Num, Refused as NoNum}
+use Rattle.fields.specs.declared.Read.{Read}
+use Rattle.fields.specs.Fields as F
 use Rattle.fields.specs.Fields.{bits_of, field_at, no_top}
 use Rattle.fields.proofs.Laws.{case}
 use Rattle.fields.proofs.Bounds.{field_got}
@@ -39,8 +42,6 @@ use Rattle.index.specs.Indexed.{NamesIndexed, NameEntered}
 use Rattle.events.specs.declared.EventString.{EventString}
 use Rattle.events.specs.declared.EventString.TheVariants.{Absent}
 use Rattle.events.specs.Records.{event_string, optional_event_string}
-use Rattle.read_names.specs.declared.Entry.{Entry}
-use Rattle.read_names.specs.declared.Entry.TheVariants.{Got as Numbered, Refused as NotNumbered}
 use Rattle.read_names.specs.declared.Parts.{Parts}
 use Rattle.read_names.specs.Strings as S
 use Rattle.read_names.specs.Strings.{IdRead, OptionalRead, id_at, optional_at, spelling}
@@ -51,18 +52,13 @@ use Rattle.read_names.specs.NameContracts.{new_name, seen_number, NewRow, Addabl
 use Rattle.index.proofs.Counted.{count_at, one_more_lem, one_more-words}
 use Rattle.index.proofs.Ordered.{ordered_name}
 use Rattle.read_names.proofs.Grown.{searched_name, grown_none, grown_on, grown-stored, string_stays, InRange, name_at as name_in_table, name_ranged}
-use Rattle.read_names.proofs.StringLaws.{tests, ranged_kept}
+use Rattle.read_names.proofs.StringLaws.{tests, ranged_kept, held_by}
 
 -- ---- a table's layout
 module _ (t : ℕ) (e : t ≡ 8) where
   pub element_number : (s : List ℕ) (at : ℕ) → field_at (numbers 3) top 3 s at ≡ field_at (layout_of t).number_forms top (name_bit (layout_of t).table) s at
   unfolding layout_of of_element
   element_number s at = rw (eq-eqb t 8 e)
-
-module _ (t : ℕ) (e : t ≡ 8 → ⊥) where
-  pub attribute_number : (s : List ℕ) (at : ℕ) → field_at c25 top 2 s at ≡ field_at (layout_of t).number_forms top (name_bit (layout_of t).table) s at
-  unfolding layout_of of_attribute
-  attribute_number s at = rw (ne_eqb t 8 e)
 
 pub layout_table : (t : ℕ) → 8 ≤ t → t < 10 → (layout_of t).table ≡ name_table_of t
 unfolding layout_of name_table_of of_element of_attribute
@@ -100,27 +96,27 @@ module _ (w : List ℕ) (t n : ℕ) (x : Row) (e : x ≡ row_at w (768 * t + 3 *
   unfolding name_strings_at event_strings_at
   strings_are_lem p m l ep em el = rw (ep, em, el) (ap (event_strings_at w) row_is)
 
--- ---- a name by number: r is what the number's field gave
-pub number_held : (s c w x : List ℕ) (t k : ℕ) → Tidy s c w x → 8 ≤ t → t < 10 → (r : Number) → r ≡ field_at (layout_of t).number_forms top (name_bit (layout_of t).table) s k
-    → (a : Entry) → a ≡ held_of (count_of (unlisted c) t) k r
+-- ---- a name by number: m is what the number's field gave
+pub number_held : (s c w x : List ℕ) (t k : ℕ) → Tidy s c w x → 8 ≤ t → t < 10 → (m : Result (Read ℕ) Fault) → m ≡ field_at (layout_of t).number_forms top (name_bit (layout_of t).table) s k
+    → (a : Result (Read ℕ) Fault) → a ≡ held_by (count_of (unlisted c) t) k m
     → (seen_name t a c w ≡ name_seen (numbered_at link (layout_of t) s k (vocabulary (unlisted c) w))) × IdLeft s c w t a c w x
 unfolding numbered_at held_of name_strings_at
-number_held s c w x t k tidy low high r is a ea = rw (ea, ← is) (by r is)
+number_held s c w x t k tidy low high m is a ea = rw (ea, ← is) (by m is)
   where
-    by : (f : Number) → f ≡ field_at (layout_of t).number_forms top (name_bit (layout_of t).table) s k
-        → (seen_name t (held_of (count_of (unlisted c) t) k f) c w
-        ≡ name_seen (S.number f λ n next. pick (leb n (length (names (vocabulary (unlisted c) w) (layout_of t).table)))
+    by : (m : Result (Read ℕ) Fault) → m ≡ field_at (layout_of t).number_forms top (name_bit (layout_of t).table) s k
+        → (seen_name t (held_by (count_of (unlisted c) t) k m) c w
+        ≡ name_seen (S.number m λ n next. pick (leb n (length (names (vocabulary (unlisted c) w) (layout_of t).table)))
         (S.got (record { name = name_of (vocabulary (unlisted c) w) empty (get_or (names (vocabulary (unlisted c) w) (layout_of t).table) (n - 1) no_triple); how = by_number n }) next (vocabulary (unlisted c) w))
         (S.refused 10 k)))
-        × IdLeft s c w t (held_of (count_of (unlisted c) t) k f) c w x
-    by (NoNum n p) e = (refl, (tidy.ten, tidy.room))
-    by (Num n i) e =
+        × IdLeft s c w t (held_by (count_of (unlisted c) t) k m) c w x
+    by (Err f) e = (refl, (tidy.ten, tidy.room))
+    by (Ok r) e =
         let g = field_got top s k (layout_of t).number_forms (name_bit (layout_of t).table) (sym e) in
         rw (layout_table t low high, length-names (unlisted c) w t low high)
-        (case (count_of (unlisted c) t) n
+        (case (count_of (unlisted c) t) r.value
         (λ l. rw (lt-leb _ _ l) (refl, (tidy.ten, tidy.room)))
-        (λ l. rw (le-leb _ _ l, name_in_table s c w x tidy t n low high g.0 l) (
-          ap (λ (z : Parts). S.got z i.at (vocabulary (unlisted c) w)) (name_is c w (triple_at w (768 * t + 3 * (n - 1))) (name_ranged s c w x tidy t n low high g.0 l)),
+        (λ l. rw (le-leb _ _ l, name_in_table s c w x tidy t r.value low high g.0 l) (
+          ap (λ (z : Parts). S.got z r.next (vocabulary (unlisted c) w)) (name_is c w (triple_at w (768 * t + 3 * (r.value - 1))) (name_ranged s c w x tidy t r.value low high g.0 l)),
           (record { tidy = tidy; within = g.3; grown = grown_none c w }, l),
         )))
 
@@ -166,17 +162,17 @@ module _ (c w : List ℕ) (t k next f : ℕ) (x : Triple) (low : 8 ≤ t) (high 
   held_is = rw (ef, names_are_lem (unlisted c) w t low high, count_at c ten t) (holds_name-number (entries (triple_at w) (768 * t) (get_or c t 0)) x)
 
   -- the answer, what it leaves, and the row it stands for
-  abbrev Named : Entry → (i d v y : List ℕ) → Type 0
+  abbrev Named : Result (Read ℕ) Fault → (i d v y : List ℕ) → Type 0
   Named r i d v y =
       (seen_number r d v ≡ new_name link (name_table_of t) x k next (vocabulary (unlisted c) w)) × ((s : List ℕ) → Tidy s c w i → next ≤ length s → IdLeft s c w t r d v y)
       × NewRow v t x r
 
-  name_held : (i : List ℕ) → (f ≡ 0 → ⊥) → Named (NotNumbered 11 k) i c w i
+  name_held : (i : List ℕ) → (f ≡ 0 → ⊥) → Named (F.refused Repeat k) i c w i
   unfolding new_name
   name_held i h = rw (held_is, ne_eqb f 0 h) (refl, λ s tidy l. (ten, fits), tt)
 
   module _ (new : f ≡ 0) where
-    name_full : (i : List ℕ) → 256 ≤ get_or c t 0 → Named (NotNumbered 12 k) i c w i
+    name_full : (i : List ℕ) → 256 ≤ get_or c t 0 → Named (F.refused Full k) i c w i
     unfolding new_name link
     name_full i h = rw (held_is, eq-eqb f 0 new, length-names (unlisted c) w t low high, count_at c ten t, le-ltb _ _ h) (refl, λ s tidy l. (ten, fits), tt)
 
@@ -217,7 +213,7 @@ module _ (c w : List ℕ) (t k next f : ℕ) (x : Triple) (low : 8 ≤ t) (high 
           })
 
       name_stored : Counted (unlisted c) → (i y : List ℕ) → ((s : List ℕ) → NameEntered s t (get_or c t 0) x w i then-words y)
-          → Named (Numbered (get_or c t 0 + 1) next) i then_counts then-words y
+          → Named (F.got (get_or c t 0 + 1) next) i then_counts then-words y
       unfolding new_name link
       name_stored small i y e =
           rw (held_is, eq-eqb f 0 new, length-names (unlisted c) w t low high, count_at c ten t, lt-ltb _ _ room, ← add-one (get_or c t 0)) (
@@ -227,19 +223,19 @@ module _ (c w : List ℕ) (t k next f : ℕ) (x : Triple) (low : 8 ≤ t) (high 
           )
 
       name_new : Counted (unlisted c) → (i v y : List ℕ) → ((s : List ℕ) → NameEntered s t (get_or c t 0) x w i v y)
-          → Named (Numbered (get_or c t 0 + 1) next) i then_counts v y
+          → Named (F.got (get_or c t 0 + 1) next) i then_counts v y
       name_new small i v y e = rw (e []).words (name_stored small i y (λ s. rw (e []).words at (e s)))
 
 -- the same of a name that may be added: the answers of the functions that add one
 module _ (c w i : List ℕ) (t k next f : ℕ) (x : Row) (may : Addable c w i t x) (ef : f ≡ number_of_triple (entries (triple_at w) (768 * t) (get_or c t 0)) (triple_of x)) where
-  pub adds_held : (f ≡ 0 → ⊥) → AddsName c w i t k next x (NotNumbered 11 k) c w i
+  pub adds_held : (f ≡ 0 → ⊥) → AddsName c w i t k next x (F.refused Repeat k) c w i
   adds_held = name_held c w t k next f (triple_of x) may.3 may.4 may.1 may.0 ef i
 
-  pub adds_full : f ≡ 0 → 256 ≤ get_or c t 0 → AddsName c w i t k next x (NotNumbered 12 k) c w i
+  pub adds_full : f ≡ 0 → 256 ≤ get_or c t 0 → AddsName c w i t k next x (F.refused Full k) c w i
   adds_full new = name_full c w t k next f (triple_of x) may.3 may.4 may.1 may.0 ef new i
 
   pub adds_new : f ≡ 0 → get_or c t 0 < 256 → (v y : List ℕ) → ((s : List ℕ) → NameEntered s t (get_or c t 0) (triple_of x) w i v y)
-      → AddsName c w i t k next x (Numbered (get_or c t 0 + 1) next) (set c t (get_or c t 0 + 1)) v y
+      → AddsName c w i t k next x (F.got (get_or c t 0 + 1) next) (set c t (get_or c t 0 + 1)) v y
   adds_new new room = name_new c w t k next f (triple_of x) may.3 may.4 may.1 may.0 ef new room may.7 may.5 i
 
 -- ---- a string that is read leaves the names
@@ -248,9 +244,9 @@ SameNames v (S.got x next w) = (u : NameTable) → names w u ≡ names v u
 SameNames v (S.refused n p) = Unit {0}
 
 module _ {B : Type 0} (P : S.Got B → Type 0) where
-  numbered : (a : Number) (f : ℕ → ℕ → S.Got B) → ((n : ℕ) (c : Cursor) → P (f n c.at)) → ((n p : ℕ) → P (S.refused n p)) → P (S.number a f)
-  numbered (Num n c) f g h = g n c
-  numbered (NoNum n p) f g h = h n p
+  numbered : (a : Result (Read ℕ) Fault) (f : ℕ → ℕ → S.Got B) → ((n next : ℕ) → P (f n next)) → ((n p : ℕ) → P (S.refused n p)) → P (S.number a f)
+  numbered (Ok r) f g h = g r.value r.next
+  numbered (Err r) f g h = h (refusal_number r.refusal) r.at
 
 same_names_lem : (s : List ℕ) (t : StringTable) (k : ℕ) (v : Vocabulary Located) → SameNames v (id_seen (id_at link s t k v))
 unfolding id_at spelling
@@ -258,15 +254,15 @@ same_names_lem s t k v =
     let P : S.Got IdRead → Type 0 = λ (g : S.Got IdRead). SameNames v (id_seen g) in
     tests P (ltb (get_or s k 0) 0x80) _ _
     (λ o. numbered P (field_at (lengths 2) no_top 2 s k) _
-    (λ n c. tests P (leb (c.at + n) (length s)) _ _
-    (λ a. tests P (is_text (octets_of s (stretch Utf8 c.at n))) _ _
-    (λ b. tests P (holds (map (octets_of s) (strings v t)) (octets_of s (stretch Utf8 c.at n))) _ _ (λ h. tt)
-    (λ h. tests P (ltb (length (strings v t)) link.entries) _ _ (λ r. names-adding v t (stretch Utf8 c.at n)) (λ r. tt)))
+    (λ n next. tests P (leb (next + n) (length s)) _ _
+    (λ a. tests P (is_text (octets_of s (stretch Utf8 next n))) _ _
+    (λ b. tests P (holds (map (octets_of s) (strings v t)) (octets_of s (stretch Utf8 next n))) _ _ (λ h. tt)
+    (λ h. tests P (ltb (length (strings v t)) link.entries) _ _ (λ r. names-adding v t (stretch Utf8 next n)) (λ r. tt)))
     (λ b. tt))
     (λ a. tt))
     (λ n p. tt))
     (λ o. numbered P (field_at c25 top 2 s k) _
-    (λ n c. tests P (leb n (length (strings v t))) _ _ (λ h u. refl) (λ h. tt))
+    (λ n next. tests P (leb n (length (strings v t))) _ _ (λ h u. refl) (λ h. tt))
     (λ n p. tt))
 
 -- a local name that is new is in no name
@@ -283,9 +279,9 @@ local_new s c w i d v k k₁ x tidy e t p n h =
     rw g (unnamed (unlisted c) _ h (names (vocabulary (unlisted c) w) t) 1 (tidy.more t))
 
 -- ---- a name's strings, read one behind the other, and what is said at the end
-abbrev pub Says : List ℕ → (t : ℕ) → Parts → Entry → Type 0
-Says v t y (Numbered n at) = name_strings_at v t n ≡ y
-Says v t y (NotNumbered n p) = Unit {0}
+abbrev pub Says : List ℕ → (t : ℕ) → Parts → Result (Read ℕ) Fault → Type 0
+Says v t y (Ok r) = name_strings_at v t r.value ≡ y
+Says v t y (Err f) = Unit {0}
 
 module _ (c₁ w₁ c₂ w₂ c₃ w₃ : List ℕ) (p n l : ℕ) (hp : p ≤ count_of (unlisted c₁) 0) (hn : n ≤ count_of (unlisted c₂) 1) (hl : l ≤ count_of (unlisted c₃) 2) (g : Grown c₁ w₁ c₂ w₂)
     (h : Grown c₂ w₂ c₃ w₃) where
@@ -293,14 +289,14 @@ module _ (c₁ w₁ c₂ w₂ c₃ w₃ : List ℕ) (p n l : ℕ) (hp : p ≤ co
   unfolding count_of
   strings_ranged some = let a = g.counts 0 in let b = h.counts 0 in let e = h.counts 1 in (omega arith, omega arith, some, hl, tt)
 
-  pub new_says : (s d v y : List ℕ) (t : ℕ) (r : Entry) → IdLeft s c₃ w₃ t r d v y → NewRow v t (record { prefix = p; namespace = n; local = l }) r
+  pub new_says : (s d v y : List ℕ) (t : ℕ) (r : Result (Read ℕ) Fault) → IdLeft s c₃ w₃ t r d v y → NewRow v t (record { prefix = p; namespace = n; local = l }) r
       → Says v t (record { prefix = event_string_at w₁ 0 p; namespace = event_string_at w₂ 1 n; local = event_string_at w₃ 2 l }) r
   unfolding name_strings_at event_strings_at
-  new_says s d v y t (Numbered m at) left row =
+  new_says s d v y t (Ok r) left row =
       let k = left.0.grown in
       let j = grown_on c₂ w₂ c₃ w₃ d v h k in
       rw (row.1, string_stays c₁ w₁ d v (grown_on c₁ w₁ c₂ w₂ d v g j) 0 p (omega arith) hp, string_stays c₂ w₂ d v j 1 n (omega arith) hn, string_stays c₃ w₃ d v k 2 l (omega arith) hl)
-  new_says s d v y t (NotNumbered m q) left row = tt
+  new_says s d v y t (Err f) left row = tt
 
 -- ---- what is seen of a name's strings
 module _ {C : Type 0} (z : S.Got C → S.Got Parts) (refusal : (n p : ℕ) → z (S.refused n p) ≡ S.refused n p) (h : Seen → ℕ → Vocabulary Located → S.Got Parts) where
@@ -396,24 +392,19 @@ module _ (q : NameLayout) (s : List ℕ) (b k : ℕ) (v : Vocabulary Located) (p
         parts-local n p e = rw (parts_third, ← e)
 
         -- t is the table's number, and r what adding the name gave
-        pub parts-read : (x₃ : Seen) (k₃ : ℕ) (v₃ : Vocabulary Located) → S.got x₃ k₃ v₃ ≡ local_field s k₂ v₂ → (t : ℕ) → q.table ≡ name_table_of t → (r : Entry) (d u : List ℕ)
+        pub parts-read : (x₃ : Seen) (k₃ : ℕ) (v₃ : Vocabulary Located) → S.got x₃ k₃ v₃ ≡ local_field s k₂ v₂ → (t : ℕ) → q.table ≡ name_table_of t → (r : Result (Read ℕ) Fault) (d u : List ℕ)
             → seen_number r d u ≡ new_name link (name_table_of t) (record { prefix = x₁.number; namespace = x₂.number; local = x₃.number }) k k₃ v₃
             → Says u t (record { prefix = x₁.text; namespace = x₂.text; local = x₃.text }) r → seen_name t r d u ≡ name_seen (parts_at link q s b k v)
         parts-read x₃ k₃ v₃ e₃ t et r d u h says = rw (parts_third, ← e₃, et, ← h) (by r says)
           where
-            by : (a : Entry) → Says u t (record { prefix = x₁.text; namespace = x₂.text; local = x₃.text }) a
+            by : (a : Result (Read ℕ) Fault) → Says u t (record { prefix = x₁.text; namespace = x₂.text; local = x₃.text }) a
                 → seen_name t a d u ≡ named (record { prefix = x₁.text; namespace = x₂.text; local = x₃.text }) (seen_number a d u)
-            by (Numbered n at) e = ap (λ (y : Parts). S.got y at (vocabulary (unlisted d) u)) e
-            by (NotNumbered n p) e = refl
+            by (Ok r) e = ap (λ (y : Parts). S.got y r.next (vocabulary (unlisted d) u)) e
+            by (Err f) e = refl
 
--- ---- a refusal handed on
-pub handed : (s c w d v x : List ℕ) (t : ℕ) (g : S.Got Parts) (n p : ℕ) → S.refused n p ≡ g → (length d ≡ 10) × (length v ≡ 7680) → (r : Entry) → r ≡ NotNumbered n p
-    → (seen_name t r d v ≡ g) × IdLeft s c w t r d v x × Positive r
-handed s c w d v x t g n p h rooms r e = rw e (h, rooms, tt)
-
-pub positive : (v : List ℕ) (t : ℕ) (x : Triple) (r : Entry) → NewRow v t x r → Positive r
-positive v t x (Numbered n at) h = h.0
-positive v t x (NotNumbered n p) h = tt
+pub positive : (v : List ℕ) (t : ℕ) (x : Triple) (r : Result (Read ℕ) Fault) → NewRow v t x r → Positive r
+positive v t x (Ok r) h = h.0
+positive v t x (Err f) h = tt
 
 -- ---- by number or in parts
 module _ (q : NameLayout) (s : List ℕ) (b k : ℕ) (v : Vocabulary Located) (g : S.Got Parts) (i : ℕ) (e : i ≡ q.in_parts_bits) where

@@ -8,6 +8,9 @@ use native.Mathlib.Omega.{arith}
 use borrow.Author.Tests.{ltb-true, leb-true, eqb-true}
 use lib.Dec.{eqb, ltb, leb}
 use lib.ListN.{length, get_or}
+use Rattle.std.specs.Prelude.{Result, Ok, Err}
+use Rattle.format.specs.Refusals.{refusal_number}
+use Rattle.format.specs.declared.refusals.Fault as Faults
 use Rattle.format.specs.Numbers.{Form, lengths, c25, top}
 use Rattle.fields.specs.Utf8.{is_text}
 use Rattle.format.specs.Tables.{StringTable, PREFIX, NAMESPACE_NAME, LOCAL_NAME, Vocabulary, strings, holds, names, holds_name, Version}
@@ -15,8 +18,7 @@ use Rattle.format.specs.Strings.{Layout, c14}
 use Rattle.format.specs.Names.{NameLayout}
 use Rattle.format.specs.declared.StringForm.{StringForm}
 use Rattle.format.specs.declared.StringForm.TheVariants.{Utf8, Utf16}
-use Rattle.fields.specs.declared.Number.{Number}
-use Rattle.fields.specs.declared.Number.TheVariants.{Got as Num, Refused as NoNum}
+use Rattle.fields.specs.declared.Read.{Read}
 use Rattle.fields.specs.Fields.{field_at, no_top}
 use Rattle.fields.proofs.Bounds.{field_got, field_refused}
 use Rattle.tables.specs.Located.{Located, stretch, octets_of}
@@ -42,9 +44,9 @@ module _ (s : List ℕ) where
       → Within (number (field_at fs max bit s k) f)
   number-within fs max bit k f h g = go (field_at fs max bit s k) refl
     where
-      go : (a : Number) → field_at fs max bit s k ≡ a → Within (number a f)
-      go (Num n c) e = let b = field_got max s k fs bit e in g n c.at (omega arith)
-      go (NoNum n p) e = let b = field_refused max s k fs bit e in omega arith
+      go : (a : Result (Read ℕ) Faults.Fault) → field_at fs max bit s k ≡ a → Within (number a f)
+      go (Ok r) e = let b = field_got max s k fs bit e in g r.value r.next (omega arith)
+      go (Err r) e = let b = field_refused max s k fs bit e in omega arith
 
   -- ---- strings
   spelling-within : {C : Type 0} (form : StringForm) (k next n : ℕ) (a : Got C) → k ≤ length s → (next + n ≤ length s → Within a) → Within (spelling form s k next n a)
@@ -53,16 +55,16 @@ module _ (s : List ℕ) where
       tests Within (leb (next + n) (length s)) _ _ (λ e. tests Within (is_text (octets_of s (stretch form next n))) _ _ (λ _. f (leb-true _ _ e)) (λ _. omega arith)) (λ _. omega arith)
 
   -- a length, where it is refused
-  abbrev Judged : Number → Type 0
-  Judged (Num n c) = Unit {0}
-  Judged (NoNum n p) = Fault n p
+  abbrev Judged : Result (Read ℕ) Faults.Fault → Type 0
+  Judged (Ok r) = Unit {0}
+  Judged (Err f) = Fault (refusal_number f.refusal) f.at
 
   field_judged : (bit k : ℕ) → k ≤ length s → Judged (field_at (lengths bit) no_top bit s k)
   field_judged bit k h = go (field_at (lengths bit) no_top bit s k) refl
     where
-      go : (a : Number) → field_at (lengths bit) no_top bit s k ≡ a → Judged a
-      go (Num n c) e = tt
-      go (NoNum n p) e = let b = field_refused no_top s k (lengths bit) bit e in omega arith
+      go : (a : Result (Read ℕ) Faults.Fault) → field_at (lengths bit) no_top bit s k ≡ a → Judged a
+      go (Ok r) e = tt
+      go (Err f) e = let b = field_refused no_top s k (lengths bit) bit e in omega arith
 
   behind_judged : (bit f k more n : ℕ) (clean : Bool) → k ≤ length s → Judged (method_behind bit f s k more n clean)
   unfolding method_behind
@@ -92,11 +94,11 @@ module _ (s : List ℕ) where
     optional_within true t k v h = then-within (id_at ver s t k v) _ (id_within t k v h) λ i next w l. l
     optional_within false t k v h = h
 
-    formed_within : (form : StringForm) (t : StringTable) (k : ℕ) (added : Bool) (r : Number) (v : Vocabulary Located) → k ≤ length s → Judged r → Within (formed_at ver form s t k added r v)
+    formed_within : (form : StringForm) (t : StringTable) (k : ℕ) (added : Bool) (r : Result (Read ℕ) Faults.Fault) (v : Vocabulary Located) → k ≤ length s → Judged r → Within (formed_at ver form s t k added r v)
     unfolding formed_at
-    formed_within form t k added (Num n c) v h j =
-        spelling-within form k c.at n _ h λ e. tests Within (not added || ltb (length (strings v t)) ver.entries) _ _ (λ _. e) (λ _. omega arith)
-    formed_within form t k added (NoNum n p) v h j = j
+    formed_within form t k added (Ok r) v h j =
+        spelling-within form k r.next r.value _ h λ e. tests Within (not added || ltb (length (strings v t)) ver.entries) _ _ (λ _. e) (λ _. omega arith)
+    formed_within form t k added (Err f) v h j = j
 
     pub spelled_within : (bit : ℕ) (t : StringTable) (k : ℕ) (added : Bool) (v : Vocabulary Located) → k ≤ length s → Within (spelled_at ver bit s t k added v)
     unfolding spelled_at

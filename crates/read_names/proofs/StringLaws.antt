@@ -10,7 +10,12 @@ use native.Mathlib.Numerals.{add-one}
 use borrow.Author.Tests.{lt-ltb, le-ltb, le-leb, lt-leb, leb-true, eq-eqb, ne_eqb}
 use lib.Dec.{ltb, leb, eqb}
 use lib.ListN.{length, get_or, set, take, drop, get_or-eq_default}
+use Rattle.std.specs.Prelude.{Result, Ok, Err, IsErr, IsErrAnd}
 use Rattle.format.specs.Numbers.{pick, Form, lengths, numbers, c25, top}
+use Rattle.format.specs.Refusals.{refusal_number}
+use Rattle.format.specs.declared.refusals.Fault.{Fault}
+use Rattle.format.specs.declared.refusals.Refusal.{Refusal}
+use Rattle.format.specs.declared.refusals.Refusal.TheVariants.{Truncated, Text, Repeat, Full}
 use Rattle.fields.specs.Utf8.{is_text}
 use Rattle.format.specs.Events.{spelled, numbered}
 use Rattle.format.specs.Tables.{Triple, Vocabulary, strings, names, adding, holds, link}
@@ -18,11 +23,9 @@ use Rattle.format.specs.Strings.{Layout, c14, c15, keeping}
 use Rattle.format.specs.Forms.{form_number, form_of}
 use Rattle.format.specs.declared.StringForm.{StringForm}
 use Rattle.format.specs.declared.StringForm.TheVariants.{Utf8, Utf16}
-use Rattle.fields.specs.declared.Cursor.{Cursor}
-use Rattle.fields.specs.declared.Number.{Number}
-use Rattle.fields.specs.declared.Number.TheVariants.{Got as Num, Refused as NoNum}
+use Rattle.fields.specs.declared.Read.{Read}
+use Rattle.fields.specs.Fields as F
 use Rattle.fields.specs.Fields.{bits_of, field_at, no_top}
-use Rattle.forms.specs.Reading.{said}
 use Rattle.fields.proofs.Laws.{case}
 use Rattle.fields.proofs.Bounds.{field_got}
 use Rattle.tables.specs.declared.Counts.{Counts}
@@ -30,25 +33,19 @@ use Rattle.tables.specs.declared.Row.{Row}
 use Rattle.tables.specs.Located.{Located, empty, stretch, octets_of}
 use Rattle.tables.specs.Rows.{table_of, built_in, form_in, string_at, entries, vocabulary}
 use Rattle.tables.specs.Kept.{unlisted, count_of, stored, row_at, Ends, Inside}
-use Rattle.tables.proofs.Search.{octets_stretch}
 use Rattle.tables.proofs.FormLaws.{MayHold, holds_any, form_identifying, form_in_lem, form_held}
 use Rattle.tables.proofs.Adding.{names-adding}
 use Rattle.tables.proofs.Entries.{stored_0, stored_1, stored_2}
 use Rattle.tables.proofs.Laws.{strings_are_lem, length-strings, string_nth, holds-number, all_table}
-use Rattle.index.specs.declared.Added.TheVariants.{Done, Known, Full}
 use Rattle.index.specs.Indexed.{listed, NewString, Indexed, StringsIndexed, StringEntered}
 use Rattle.index.proofs.Entered.{keeps_elsewhere}
 use Rattle.events.specs.declared.EventString.{EventString}
 use Rattle.events.specs.declared.EventString.TheVariants.{Absent, Empty, Stretch, XmlPrefix, XmlNamespace}
 use Rattle.events.specs.Records.{event_string}
-use Rattle.read_names.specs.declared.Entry.{Entry}
-use Rattle.read_names.specs.declared.Entry.TheVariants.{Got as Numbered, Refused as NotNumbered}
-use Rattle.read_names.specs.declared.Field.{Field}
-use Rattle.read_names.specs.declared.Field.TheVariants.{Got, Refused}
 use Rattle.read_names.specs.Strings as S
-use Rattle.read_names.specs.Strings.{got, refused, then, number, spelling, IdRead, StringRead, id_at, optional_at, number_bit, method_at, form_by, method_length, formed_at, spelled_at, literal_at, value_at}
+use Rattle.read_names.specs.Strings.{Got, got, refused, then, number, spelling, IdRead, StringRead, id_at, optional_at, number_bit, method_at, form_by, method_length, formed_at, spelled_at, literal_at, value_at}
 use Rattle.read_names.specs.Promises.{Ranged, searched, Tidy, Left, event_string_at, Seen, seen_id, IdLeft, Positive, seen_field, FieldLeft, id_seen, optional_seen, string_seen}
-use Rattle.read_names.specs.StringContracts.{LengthRead, stretch_of, NumberPositive, held_of, said_of, added_of, added_counts, added_words}
+use Rattle.read_names.specs.StringContracts.{LengthRead, judged_of, held_of, said_of, added_of, added_counts, added_words}
 use Rattle.index.proofs.Counted.{count_at, one_more-words}
 use Rattle.index.proofs.Ordered.{string_more, ordered_string}
 use Rattle.read_names.proofs.Grown.{searched_string, searched_not, grown_none, grown-stored}
@@ -58,42 +55,47 @@ pub tests : {A : Type 0} (P : A → Type 0) (t : Bool) (a b : A) → (t ≡ true
 tests P true a b f g = f refl
 tests P false a b f g = g refl
 
+-- `?` hands a refusal on as it is
+pub handed_on : {T : Type 0} (r : Result T Fault) (f : Fault) → IsErr r × IsErrAnd r (λ y. y ≡ f) → r ≡ Err f
+handed_on (Ok x) f h = absurd h.1
+handed_on (Err y) f h = ap Err h.1
+
 -- ---- a spelled string's octets: r is the length that was read at k
-pub length-read : (s : List ℕ) (k bit : ℕ) (r : Number) → r ≡ field_at (lengths bit) no_top bit s k → LengthRead s r
-length-read s k bit (NoNum n p) e = tt
-length-read s k bit (Num n c) e = let g = field_got no_top s k (lengths bit) bit (sym e) in (g.0, g.3)
+pub length-read : (s : List ℕ) (k bit : ℕ) (r : Read ℕ) → Ok r ≡ field_at (lengths bit) no_top bit s k → LengthRead s r
+length-read s k bit r e = let g = field_got no_top s k (lengths bit) bit (sym e) in (g.0, g.3)
 
-pub begins : (s : List ℕ) (r : Number) (n : ℕ) (c : Cursor) → r ≡ Num n c → LengthRead s r → (1 ≤ n) × (c.at ≤ length s)
-begins s r n c e read = rw e at read
+module _ (form : StringForm) (s : List ℕ) (k : ℕ) (r : Read ℕ) where
+  pub judged_text : r.next + r.value ≤ length s → is_text (octets_of s (stretch form r.next r.value)) ≡ true → Ok tt ≡ judged_of form s k r
+  unfolding judged_of
+  judged_text h q = rw (le-leb _ _ h, q)
 
-module _ (form : StringForm) (s : List ℕ) (k : ℕ) (r : Number) where
-  pub stretch_not : (n p : ℕ) → r ≡ NoNum n p → r ≡ stretch_of form s k r
-  unfolding stretch_of
-  stretch_not n p e = rw e
+  -- what the judgement says of the octets is what the definition says, where b is what follows
+  abbrev judged : {C : Type 0} → Result (Unit {0}) Fault → Got C → Got C
+  judged (Ok u) b = b
+  judged (Err f) b = refused (refusal_number f.refusal) f.at
 
-  module _ (n : ℕ) (c : Cursor) (e : r ≡ Num n c) where
-    pub stretch_past : length s < c.at + n → NoNum 2 k ≡ stretch_of form s k r
-    unfolding stretch_of
-    stretch_past h = rw (e, lt-leb _ _ h)
+  spelling_judged : {C : Type 0} (b : Got C) → spelling form s k r.next r.value b ≡ judged (judged_of form s k r) b
+  unfolding spelling judged_of
+  spelling_judged b = by (leb (r.next + r.value) (length s)) (is_text (octets_of s (stretch form r.next r.value)))
+    where
+      by : (t u : Bool) → pick t (pick u b (refused 9 k)) (refused 2 k) ≡ judged (pick t (pick u (Ok tt) (F.refused Text k)) (F.refused Truncated k)) b
+      by true true = refl
+      by true false = refl
+      by false u = refl
 
-    module _ (b : Bool) (h : c.at + n ≤ length s) (q : b ≡ is_text (octets_of s (stretch form c.at n))) where
-      pub judged_bad : b ≡ false → NoNum 9 k ≡ stretch_of form s k r
-      unfolding stretch_of
-      judged_bad t = rw (e, le-leb _ _ h, ← q, t)
+  abbrev Lies : Result (Unit {0}) Fault → Type 0
+  Lies (Ok u) = r.next + r.value ≤ length s
+  Lies (Err f) = Unit {0}
 
-      pub judged_text : b ≡ true → Num n c ≡ stretch_of form s k r
-      unfolding stretch_of
-      judged_text t = rw (e, le-leb _ _ h, ← q, t)
+  judged_lies : Lies (judged_of form s k r)
+  unfolding judged_of
+  judged_lies =
+      tests Lies (leb (r.next + r.value) (length s)) _ _
+      (λ t. tests Lies (is_text (octets_of s (stretch form r.next r.value))) _ _ (λ u. leb-true _ _ t) (λ u. tt))
+      (λ t. tt)
 
-    module _ (b : Bool) (to : ℕ) (h : c.at + n ≤ length s) (is-to : to ≡ c.at + n) (q : b ≡ is_text (said form (take (to - c.at) (drop c.at s)))) where
-      tested : b ≡ is_text (octets_of s (stretch form c.at n))
-      tested = let z : to - c.at ≡ n = omega arith in rw (octets_stretch s form c.at n, ← z) q
-
-      pub stretch_bad : b ≡ false → NoNum 9 k ≡ stretch_of form s k r
-      stretch_bad = judged_bad b h tested
-
-      pub stretch_text : b ≡ true → Num n c ≡ stretch_of form s k r
-      stretch_text = judged_text b h tested
+  pub judged_within : Ok tt ≡ judged_of form s k r → r.next + r.value ≤ length s
+  judged_within e = rw (← e) at judged_lies
 
 -- ---- an entry as a string of an event
 module _ (t at : ℕ) (w : List ℕ) (e : Row) (is : e ≡ row_at w at) where
@@ -146,62 +148,40 @@ pub string_there : (w : List ℕ) (t n : ℕ) (x : EventString) → 1 ≤ n → 
 unfolding event_string_at
 string_there w t n x h e = let z : suc (n - 1) ≡ n = omega arith in e ∙ ap (event_string_at w t) z
 
--- ---- a number that was read
-module _ (count k : ℕ) (r : Number) where
-  pub held_not : (n p : ℕ) → r ≡ NoNum n p → NotNumbered n p ≡ held_of count k r
+-- ---- a number that was read, r
+module _ (count k : ℕ) (r : Read ℕ) where
+  pub held_entry : r.value ≤ count → Ok r ≡ held_of count k r
   unfolding held_of
-  held_not n p e = rw e
+  held_entry l = rw (le-leb _ _ l)
 
-  module _ (n : ℕ) (c : Cursor) (e : r ≡ Num n c) where
-    pub held_beyond : count < n → NotNumbered 10 k ≡ held_of count k r
-    unfolding held_of
-    held_beyond l = rw (e, lt-leb _ _ l)
+  abbrev Among : Result (Read ℕ) Fault → Type 0
+  Among (Ok n) = (n ≡ r) × (n.value ≤ count)
+  Among (Err f) = Unit {0}
 
-    pub held_entry : n ≤ count → Numbered n c.at ≡ held_of count k r
-    unfolding held_of
-    held_entry l = rw (e, le-leb _ _ l)
-
-  pub held_positive : (fs : List Form) (bit : ℕ) (s : List ℕ) → count ≤ 256 → r ≡ field_at fs top bit s k → NumberPositive (held_of count k r)
+  held_among : Among (held_of count k r)
   unfolding held_of
-  held_positive fs bit s small e = by r e
-    where
-      by : (f : Number) → f ≡ field_at fs top bit s k → NumberPositive (held_of count k f)
-      by (NoNum n p) q = tt
-      by (Num n c) q = let g = field_got top s k fs bit (sym q) in tests NumberPositive (leb n count) _ _ (λ l. let u : n ≤ count = leb-true _ _ l in (g.0, omega arith)) (λ l. tt)
+  held_among = tests Among (leb r.value count) _ _ (λ l. (refl, leb-true _ _ l)) (λ l. tt)
 
-pub numbers_from_one : (r : Entry) → NumberPositive r → Positive r
-numbers_from_one (Numbered n at) p = p.0
-numbers_from_one (NotNumbered n p) h = tt
+  pub held_is : (n : Read ℕ) → Ok n ≡ held_of count k r → (n ≡ r) × (n.value ≤ count)
+  held_is n e = rw (← e) at held_among
 
-pub said-number : (r : Entry) (n at : ℕ) → r ≡ Numbered n at → NumberPositive r → (1 ≤ n) × (n ≤ 256)
-said-number r n at e p = rw e at p
+  pub held_positive : 1 ≤ r.value → Positive (held_of count k r)
+  unfolding held_of
+  held_positive h = tests Positive (leb r.value count) _ _ (λ l. h) (λ l. tt)
 
-module _ (w : List ℕ) (t : ℕ) (r : Entry) where
-  pub said_not : (n p : ℕ) → r ≡ NotNumbered n p → Refused n p ≡ said_of w t r
+module _ (w : List ℕ) (t count k : ℕ) (r : Read ℕ) where
+  pub said_entry : (x : EventString) → r.value ≤ count → x ≡ event_string (string_at (table_of t) w (768 * t + 3 * (r.value - 1))) → F.got x r.next ≡ said_of w t count k r
   unfolding said_of
-  said_not n p e = rw e
+  said_entry x l q = rw (le-leb _ _ l, q)
 
-  pub said_entry : (n at : ℕ) (x : EventString) → r ≡ Numbered n at → x ≡ event_string (string_at (table_of t) w (768 * t + 3 * (n - 1))) → Got x at ≡ said_of w t r
-  unfolding said_of
-  said_entry n at x e q = rw (e, q)
+-- a refusal of the number is handed on
+abbrev pub held_by : (count k : ℕ) → Result (Read ℕ) Fault → Result (Read ℕ) Fault
+held_by count k (Ok r) = held_of count k r
+held_by count k (Err f) = Err f
 
--- ---- one entry more, where its add bit says so
-module _ (c w : List ℕ) (t k : ℕ) (form : StringForm) (place size : ℕ) (add : Bool) (a b : ℕ) (ea : a ≡ place) (eb : b ≡ size) where
-  pub added_not : add ≡ false
-      → (Got (Stretch form a b) (place + size) ≡ added_of c t k form place size add) × (c ≡ added_counts c t add) × (w ≡ added_words c w t form place size add)
-  unfolding added_of added_counts added_words
-  added_not z = rw (z, ea, eb) (refl, refl, refl)
-
-  pub added_full : add ≡ true → 256 ≤ get_or c t 0
-      → (Refused 12 k ≡ added_of c t k form place size add) × (c ≡ added_counts c t add) × (w ≡ added_words c w t form place size add)
-  unfolding added_of added_counts added_words
-  added_full z l = rw (z, le-ltb _ _ l) (refl, refl, refl)
-
-  pub added_more : add ≡ true → get_or c t 0 < 256 → (n : ℕ) → n ≡ form_number form → (v : List ℕ) → v ≡ stored w t (get_or c t 0) a b n
-      → (Got (Stretch form a b) (place + size) ≡ added_of c t k form place size add) × (set c t (get_or c t 0 + 1) ≡ added_counts c t add)
-      × (v ≡ added_words c w t form place size add)
-  unfolding added_of added_counts added_words
-  added_more z l n en v ev = rw (z, lt-ltb _ _ l, ev, ea, eb, en) (refl, refl, refl)
+abbrev pub said_by : List ℕ → (t count k : ℕ) → Result (Read ℕ) Fault → Result (Read EventString) Fault
+said_by w t count k (Ok r) = said_of w t count k r
+said_by w t count k (Err f) = Err f
 
 -- ---- tables in order stay so
 growing : (l : List ℕ) (t k : ℕ) → get_or l k 0 ≤ get_or (set l t (get_or l t 0 + 1)) k 0
@@ -257,48 +237,16 @@ module _ (s c w x : List ℕ) (t : ℕ) (form : StringForm) (place size : ℕ) (
       rw (add-one (get_or c t 0), one, stored_0 w t (get_or c t 0) place size (form_number form) fits, stored_2 w t (get_or c t 0) place size (form_number form) fits, ne_eqb size 0 (omega arith), form_held t form h may)
 
 -- ---- what an answer stands for
-abbrev pub IdAnswers : (s c w : List ℕ) → ℕ → Entry → (d v x : List ℕ) → S.Got Seen → Type 0
+abbrev pub IdAnswers : (s c w : List ℕ) → ℕ → Result (Read ℕ) Fault → (d v x : List ℕ) → S.Got Seen → Type 0
 IdAnswers s c w t r d v x a = (seen_id t r d v ≡ a) × IdLeft s c w t r d v x × Positive r
 
-abbrev pub FieldAnswers : (s c w : List ℕ) → Field → (d v x : List ℕ) → S.Got EventString → Type 0
+abbrev pub FieldAnswers : (s c w : List ℕ) → Result (Read EventString) Fault → (d v x : List ℕ) → S.Got EventString → Type 0
 FieldAnswers s c w r d v x a = (seen_field r d v ≡ a) × FieldLeft s c w r d v x
 
 -- a test of a definition, under a map
 under : {A B : Type 0} (f : A → B) (b : Bool) (x y : A) → f (pick b x y) ≡ pick b (f x) (f y)
 under f true x y = refl
 under f false x y = refl
-
--- the octets of a spelled string are judged in `stretch_of`
-judged : {C : Type 0} (form : StringForm) (s : List ℕ) (k : ℕ) (a : ℕ → ℕ → S.Got C) (f : Number) → number f (λ n next. spelling form s k next n (a n next)) ≡ number (stretch_of form s k f) a
-unfolding spelling stretch_of
-judged form s k a (NoNum n p) = refl
-judged form s k a (Num n c) = by (leb (c.at + n) (length s)) (is_text (octets_of s (stretch form c.at n)))
-  where
-    by : (t u : Bool) → pick t (pick u (a n c.at) (refused 9 k)) (refused 2 k) ≡ number (pick t (pick u (Num n c) (NoNum 9 k)) (NoNum 2 k)) a
-    by true true = refl
-    by true false = refl
-    by false u = refl
-
--- they are the ones that were read, and lie in the document
-module _ (form : StringForm) (s : List ℕ) (k : ℕ) where
-  abbrev Lies : Number → Number → Type 0
-  Lies r (Num n c) = (r ≡ Num n c) × (c.at + n ≤ length s)
-  Lies r (NoNum n p) = Unit {0}
-
-  lies : (r : Number) → Lies r (stretch_of form s k r)
-  unfolding stretch_of
-  lies (NoNum n p) = tt
-  lies (Num n c) =
-      tests (Lies (Num n c)) (leb (c.at + n) (length s)) _ _
-      (λ t. tests (Lies (Num n c)) (is_text (octets_of s (stretch form c.at n))) _ _ (λ u. (refl, leb-true _ _ t)) (λ u. tt))
-      (λ t. tt)
-
-  module _ (r : Number) (n : ℕ) (c : Cursor) (e : Num n c ≡ stretch_of form s k r) where
-    pub stretch_within : (r ≡ Num n c) × (c.at + n ≤ length s)
-    stretch_within = rw (← e) at (lies r)
-
-    stretch_lies : LengthRead s r → (1 ≤ n) × (c.at + n ≤ length s)
-    stretch_lies read = ((begins s r n c stretch_within.0 read).0, stretch_within.1)
 
 -- an octet that is not 0 is one of the document's
 pub there_is : (s : List ℕ) (k : ℕ) → 0 < get_or s k 0 → k < length s
@@ -336,32 +284,32 @@ module _ (s c w x : List ℕ) (t k : ℕ) (tidy : Tidy s c w x) (small : t < 8) 
   abbrev entry_of : ℕ → ℕ → S.Got EventString
   entry_of n next = pick (leb n (length table)) (got (event_string (get_or table (n - 1) empty)) next here) (refused 10 k)
 
-  module _ (fs : List Form) (bit : ℕ) (r : Number) (is : r ≡ field_at fs top bit s k) where
-    held_number : IdAnswers s c w t (held_of (count_of (unlisted c) t) k r) c w x (number r number_of)
+  module _ (fs : List Form) (bit : ℕ) (m : Result (Read ℕ) Fault) (is : m ≡ field_at fs top bit s k) where
+    held_number : IdAnswers s c w t (held_by (count_of (unlisted c) t) k m) c w x (number m number_of)
     unfolding held_of
-    held_number = by r is
+    held_number = by m is
       where
-        by : (f : Number) → f ≡ field_at fs top bit s k → IdAnswers s c w t (held_of (count_of (unlisted c) t) k f) c w x (number f number_of)
-        by (NoNum n p) e = (refl, rooms, tt)
-        by (Num n i) e =
+        by : (m : Result (Read ℕ) Fault) → m ≡ field_at fs top bit s k → IdAnswers s c w t (held_by (count_of (unlisted c) t) k m) c w x (number m number_of)
+        by (Err f) e = (refl, rooms, tt)
+        by (Ok r) e =
             let g = field_got top s k fs bit (sym e) in
             let len = length-strings (unlisted c) w t small in
-            case (count_of (unlisted c) t) n
+            case (count_of (unlisted c) t) r.value
             (λ l. rw (len, lt-leb _ _ l) (refl, rooms, tt))
-            (λ l. rw (len, le-leb _ _ l, string_nth (unlisted c) w t (n - 1) empty small (omega arith), string_there w t n _ g.0 refl) (refl, (stays i.at g.3, l), g.0))
+            (λ l. rw (len, le-leb _ _ l, string_nth (unlisted c) w t (r.value - 1) empty small (omega arith), string_there w t r.value _ g.0 refl) (refl, (stays r.next g.3, l), g.0))
 
-    held_string : FieldAnswers s c w (said_of w t (held_of (count_of (unlisted c) t) k r)) c w x (number r entry_of)
-    unfolding held_of said_of
-    held_string = by r is
+    held_string : FieldAnswers s c w (said_by w t (count_of (unlisted c) t) k m) c w x (number m entry_of)
+    unfolding said_of
+    held_string = by m is
       where
-        by : (f : Number) → f ≡ field_at fs top bit s k → FieldAnswers s c w (said_of w t (held_of (count_of (unlisted c) t) k f)) c w x (number f entry_of)
-        by (NoNum n p) e = (refl, rooms)
-        by (Num n i) e =
+        by : (m : Result (Read ℕ) Fault) → m ≡ field_at fs top bit s k → FieldAnswers s c w (said_by w t (count_of (unlisted c) t) k m) c w x (number m entry_of)
+        by (Err f) e = (refl, rooms)
+        by (Ok r) e =
             let g = field_got top s k fs bit (sym e) in
             let len = length-strings (unlisted c) w t small in
-            case (count_of (unlisted c) t) n
+            case (count_of (unlisted c) t) r.value
             (λ l. rw (len, lt-leb _ _ l) (refl, rooms))
-            (λ l. rw (len, le-leb _ _ l, string_nth (unlisted c) w t (n - 1) empty small (omega arith)) (refl, stays i.at g.3))
+            (λ l. rw (len, le-leb _ _ l, string_nth (unlisted c) w t (r.value - 1) empty small (omega arith)) (refl, stays r.next g.3))
 
   -- ---- C.13
   abbrev as_id : ℕ → ℕ → S.Got IdRead
@@ -374,84 +322,71 @@ module _ (s c w x : List ℕ) (t k : ℕ) (tidy : Tidy s c w x) (small : t < 8) 
   abbrev pub by_id : S.Got Seen
   by_id = id_seen (id_at link s (table_of t) k here)
 
-  -- its length was read, m, and its octets judged, r
-  module _ (low : get_or s k 0 < 0x80) (m : Number) (read : m ≡ field_at (lengths 2) no_top 2 s k) (r : Number) (is : r ≡ stretch_of Utf8 s k m) where
-    id_spelled : id_at link s (table_of t) k here ≡ number r as_id
+  -- its length was refused
+  pub fresh_refused : get_or s k 0 < 0x80 → (f : Fault) → Err f ≡ field_at (lengths 2) no_top 2 s k → IdAnswers s c w t (Err f) c w x by_id
+  unfolding id_at
+  fresh_refused low f e = rw (lt-ltb _ _ low, ← e) (refl, rooms, tt)
+
+  -- its length was read, r; and what became of its octets
+  module _ (low : get_or s k 0 < 0x80) (r : Read ℕ) (read : Ok r ≡ field_at (lengths 2) no_top 2 s k) where
+    id_spelled : id_at link s (table_of t) k here ≡ spelling Utf8 s k r.next r.value (as_id r.value r.next)
     unfolding id_at
-    id_spelled = rw (lt-ltb _ _ low, is, read) (judged Utf8 s k as_id (field_at (lengths 2) no_top 2 s k))
+    id_spelled = rw (lt-ltb _ _ low, ← read)
 
-    fresh_not : (n p : ℕ) → r ≡ NoNum n p → IdAnswers s c w t (NotNumbered n p) c w x by_id
-    fresh_not n p e = rw (id_spelled, e) (refl, rooms, tt)
+    pub fresh_past : length s < r.next + r.value → IdAnswers s c w t (F.refused Truncated k) c w x by_id
+    unfolding spelling
+    fresh_past h = rw (id_spelled, lt-leb _ _ h) (refl, rooms, tt)
 
-    module _ (n : ℕ) (i : Cursor) (e : r ≡ Num n i) where
-      there : holds (map (octets_of s) table) (octets_of s (stretch Utf8 i.at n)) ≡ listed s w t (get_or c t 0) i.at n
-      there = rw (strings_are_lem (unlisted c) w t small, count_at c tidy.ten t) (holds-number _ _)
+    module _ (h : r.next + r.value ≤ length s) where
+      pub fresh_bad : is_text (octets_of s (stretch Utf8 r.next r.value)) ≡ false → IdAnswers s c w t (F.refused Text k) c w x by_id
+      unfolding spelling
+      fresh_bad z = rw (id_spelled, le-leb _ _ h, z) (refl, rooms, tt)
 
-      fresh-known : listed s w t (get_or c t 0) i.at n ≡ true → IdAnswers s c w t (NotNumbered 11 k) c w x by_id
-      fresh-known l = rw (id_spelled, e, there, l) (refl, rooms, tt)
+      -- they are text, and v and y are the words of the tables and the index then
+      module _ (text : is_text (octets_of s (stretch Utf8 r.next r.value)) ≡ true) (v y : List ℕ) where
+        id_text : id_at link s (table_of t) k here ≡ as_id r.value r.next
+        unfolding spelling
+        id_text = rw (id_spelled, le-leb _ _ h, text)
 
-      module _ (new : listed s w t (get_or c t 0) i.at n ≡ false) where
-        fresh_full : 256 ≤ get_or c t 0 → IdAnswers s c w t (NotNumbered 12 k) c w x by_id
+        there : holds (map (octets_of s) table) (octets_of s (stretch Utf8 r.next r.value)) ≡ listed s w t (get_or c t 0) r.next r.value
+        there = rw (strings_are_lem (unlisted c) w t small, count_at c tidy.ten t) (holds-number _ _)
+
+        pub new_not : (e : Refusal) → NewString s t (get_or c t 0) r.next r.value w x (Err e) v y → IdAnswers s c w t (F.refused e k) c v y by_id
         unfolding link
-        fresh_full l = rw (id_spelled, e, there, new, length-strings (unlisted c) w t small, count_at c tidy.ten t, le-ltb _ _ l) (refl, rooms, tt)
+        new_not Repeat a = rw (a.1, id_text, there, a.0) (refl, rooms, tt)
+        new_not Full a = rw (a.2, id_text, there, a.0, length-strings (unlisted c) w t small, count_at c tidy.ten t, le-ltb _ _ a.1) (refl, rooms, tt)
+        new_not e a = absurd a
 
-        fresh-stored : (l : get_or c t 0 < 256) (y : List ℕ) → StringEntered s t (get_or c t 0) (record { a = i.at; b = n; c = 0 }) w x (stored w t (get_or c t 0) i.at n 0) y
-            → IdAnswers s c w t (Numbered (get_or c t 0 + 1) (i.at + n)) (set c t (get_or c t 0 + 1)) (stored w t (get_or c t 0) i.at n 0) y by_id
+        pub new_done : NewString s t (get_or c t 0) r.next r.value w x (Ok tt) v y
+            → IdAnswers s c w t (F.got (get_or c t 0 + 1) (r.next + r.value)) (set c t (get_or c t 0 + 1)) v y by_id
         unfolding link
-        fresh-stored l y q =
-            let b = stretch_lies Utf8 s k m n i (sym e ∙ is) (length-read s k 2 m read) in
+        new_done a =
+            let l = a.1 in
+            let some = (length-read s k 2 r read).0 in
+            let q = rw a.2.words at a.2 in
             let more = (one_more-words c tidy.ten t (omega arith)).here in
-            rw (id_spelled, e, there, new, length-strings (unlisted c) w t small, count_at c tidy.ten t, lt-ltb _ _ l, ← add-one (get_or c t 0)) (
-              rw (← new_string s c w x t Utf8 i.at n tidy small (λ _. refl) l b.1 b.0, ← is_added s c w x t Utf8 i.at n tidy small (λ _. refl) l b.1 b.0) refl,
-              (left_entered s c w x t Utf8 i.at n tidy small (λ _. refl) l b.1 b.0 y q, omega arith),
+            rw (a.2.words, id_text, there, a.0, length-strings (unlisted c) w t small, count_at c tidy.ten t, lt-ltb _ _ l, ← add-one (get_or c t 0)) (
+              rw (← new_string s c w x t Utf8 r.next r.value tidy small (λ _. refl) l h some, ← is_added s c w x t Utf8 r.next r.value tidy small (λ _. refl) l h some) refl,
+              (left_entered s c w x t Utf8 r.next r.value tidy small (λ _. refl) l h some y q, omega arith),
               omega arith,
             )
 
-        fresh_added : get_or c t 0 < 256 → (v y : List ℕ) → StringEntered s t (get_or c t 0) (record { a = i.at; b = n; c = 0 }) w x v y
-            → IdAnswers s c w t (Numbered (get_or c t 0 + 1) (i.at + n)) (set c t (get_or c t 0 + 1)) v y by_id
-        fresh_added l v y q = rw q.words (fresh-stored l y (rw q.words at q))
-
-  -- its length was read, m: n octets from a place on; and what became of them
-  module _ (low : get_or s k 0 < 0x80) (m : Number) (read : m ≡ field_at (lengths 2) no_top 2 s k) where
-    pub fresh_refused : (n p : ℕ) → m ≡ NoNum n p → IdAnswers s c w t (NotNumbered n p) c w x by_id
-    fresh_refused n p e = fresh_not low m read m (stretch_not Utf8 s k m n p e) n p e
-
-    module _ (n : ℕ) (i : Cursor) (e : m ≡ Num n i) where
-      pub fresh_past : length s < i.at + n → IdAnswers s c w t (NotNumbered 2 k) c w x by_id
-      fresh_past h = fresh_not low m read (NoNum 2 k) (stretch_past Utf8 s k m n i e h) 2 k refl
-
-      module _ (b : Bool) (h : i.at + n ≤ length s) (q : b ≡ is_text (octets_of s (stretch Utf8 i.at n))) where
-        pub fresh_bad : b ≡ false → IdAnswers s c w t (NotNumbered 9 k) c w x by_id
-        fresh_bad z = fresh_not low m read (NoNum 9 k) (judged_bad Utf8 s k m n i e b h q z) 9 k refl
-
-        -- they are text, and v and y are the words of the tables and the index then
-        module _ (text : b ≡ true) (v y : List ℕ) where
-          pub new_known : NewString s t (get_or c t 0) i.at n w x Known v y → IdAnswers s c w t (NotNumbered 11 k) c v y by_id
-          new_known a = rw a.1 (fresh-known low m read (Num n i) (judged_text Utf8 s k m n i e b h q text) n i refl a.0)
-
-          pub new_full : NewString s t (get_or c t 0) i.at n w x Full v y → IdAnswers s c w t (NotNumbered 12 k) c v y by_id
-          new_full a = rw a.2 (fresh_full low m read (Num n i) (judged_text Utf8 s k m n i e b h q text) n i refl a.0 a.1)
-
-          pub new_done : NewString s t (get_or c t 0) i.at n w x Done v y
-              → IdAnswers s c w t (Numbered (get_or c t 0 + 1) (i.at + n)) (set c t (get_or c t 0 + 1)) v y by_id
-          new_done a = fresh_added low m read (Num n i) (judged_text Utf8 s k m n i e b h q text) n i refl a.0 a.1 v y a.2
-
-  module _ (high : 0x80 ≤ get_or s k 0) (r : Number) (is : r ≡ field_at c25 top 2 s k) where
-    pub id_held : (a : Entry) → a ≡ held_of (count_of (unlisted c) t) k r → IdAnswers s c w t a c w x by_id
+  module _ (high : 0x80 ≤ get_or s k 0) (m : Result (Read ℕ) Fault) (is : m ≡ field_at c25 top 2 s k) where
+    pub id_held : (a : Result (Read ℕ) Fault) → a ≡ held_by (count_of (unlisted c) t) k m → IdAnswers s c w t a c w x by_id
     unfolding id_at
-    id_held a q = rw (q, le-ltb _ _ high, ← is, by r) (held_number c25 2 r is)
+    id_held a q = rw (q, le-ltb _ _ high, ← is, by m) (held_number c25 2 m is)
       where
-        by : (r : Number)
-            → id_seen (number r λ n next. pick (leb n (length table)) (got (record { string = get_or table (n - 1) empty; how = numbered n; number = n }) next here) (refused 10 k))
-            ≡ number r number_of
-        by (NoNum n p) = refl
-        by (Num n c) = under id_seen (leb n (length table)) _ _
+        by : (m : Result (Read ℕ) Fault)
+            → id_seen (number m λ n next. pick (leb n (length table)) (got (record { string = get_or table (n - 1) empty; how = numbered n; number = n }) next here) (refused 10 k))
+            ≡ number m number_of
+        by (Err f) = refl
+        by (Ok r) = under id_seen (leb r.value (length table)) _ _
 
   module _ (there : Bool) where
     abbrev pub by_optional : S.Got Seen
     by_optional = optional_seen (optional_at link there s (table_of t) k here)
 
-    pub optional_there : there ≡ true → (a : Entry) (d v y : List ℕ) → IdAnswers s c w t a d v y by_id → (seen_id t a d v ≡ by_optional) × IdLeft s c w t a d v y
+    pub optional_there : there ≡ true → (a : Result (Read ℕ) Fault) (d v y : List ℕ) → IdAnswers s c w t a d v y by_id → (seen_id t a d v ≡ by_optional) × IdLeft s c w t a d v y
     unfolding optional_at
     optional_there z a d v y p = rw (z, by (id_at link s (table_of t) k here)) (p.0, p.1)
       where
@@ -459,42 +394,47 @@ module _ (s c w x : List ℕ) (t k : ℕ) (tidy : Tidy s c w x) (small : t < 8) 
         by (got b next v) = refl
         by (refused n p) = refl
 
-    pub optional_absent : there ≡ false → k ≤ length s → (seen_id t (Numbered 0 k) c w ≡ by_optional) × IdLeft s c w t (Numbered 0 k) c w x
+    pub optional_absent : there ≡ false → k ≤ length s → (seen_id t (F.got 0 k) c w ≡ by_optional) × IdLeft s c w t (F.got 0 k) c w x
     unfolding optional_at event_string_at
     optional_absent z l = rw z (refl, (stays k l, omega arith))
 
   -- ---- C.14, C.15
-  -- a spelled one in a form, whose length was read, m, and whose octets were judged, r
-  module _ (form : StringForm) (add : Bool) (m : Number) (read : LengthRead s m) (r : Number) (is : r ≡ stretch_of form s k m) where
-    abbrev as_string : Bool → ℕ → ℕ → S.Got StringRead
-    as_string add n next =
+  -- a spelled one in a form, whose length was refused
+  abbrev pub by_formed : StringForm → Bool → Result (Read ℕ) Fault → S.Got EventString
+  by_formed form add m = string_seen (formed_at link form s (table_of t) k add m here)
+
+  pub length_refused : (form : StringForm) (add : Bool) (f : Fault) → FieldAnswers s c w (Err f) c w x (by_formed form add (Err f))
+  unfolding formed_at
+  length_refused form add f = (refl, rooms)
+
+  -- or was read, r
+  module _ (form : StringForm) (add : Bool) (r : Read ℕ) (read : LengthRead s r) where
+    abbrev as_string : Bool → S.Got StringRead
+    as_string add =
         pick (not add || ltb (length table) link.entries)
-        (got (record { string = stretch form next n; how = spelled form add }) (next + n) (keeping add here (table_of t) (stretch form next n)))
+        (got (record { string = stretch form r.next r.value; how = spelled form add }) (r.next + r.value) (keeping add here (table_of t) (stretch form r.next r.value)))
         (refused 12 k)
 
-    abbrev pub by_formed : S.Got EventString
-    by_formed = string_seen (formed_at link form s (table_of t) k add m here)
-
-    string_formed : formed_at link form s (table_of t) k add m here ≡ number r (as_string add)
+    string_formed : formed_at link form s (table_of t) k add (Ok r) here ≡ judged form s k r (judged_of form s k r) (as_string add)
     unfolding formed_at
-    string_formed = rw is (judged form s k (as_string add) m)
+    string_formed = spelling_judged form s k r (as_string add)
 
-    pub formed_not : (n p : ℕ) → r ≡ NoNum n p → FieldAnswers s c w (Refused n p) c w x by_formed
-    formed_not n p e = rw (string_formed, e) (refl, rooms)
+    pub formed_not : (f : Fault) → Err f ≡ judged_of form s k r → FieldAnswers s c w (Err f) c w x (by_formed form add (Ok r))
+    formed_not f e = rw (string_formed, ← e) (refl, rooms)
 
-    pub formed_added : 5 ≤ t → (n : ℕ) (i : Cursor) → r ≡ Num n i → (a : Field) (d v : List ℕ)
-        → (a ≡ added_of c t k form i.at n add) × (d ≡ added_counts c t add) × (v ≡ added_words c w t form i.at n add) → FieldAnswers s c w a d v x by_formed
+    pub formed_added : 5 ≤ t → Ok tt ≡ judged_of form s k r → (a : Result (Read EventString) Fault) (d v : List ℕ)
+        → (a ≡ added_of c t k form r.next r.value add) × (d ≡ added_counts c t add) × (v ≡ added_words c w t form r.next r.value add) → FieldAnswers s c w a d v x (by_formed form add (Ok r))
     unfolding added_of added_counts added_words link
-    formed_added l n i e a d v q = rw (q.0, q.1, q.2, string_formed, e) (by add)
+    formed_added l e a d v q = rw (q.0, q.1, q.2, string_formed, ← e) (by add)
       where
-        by : (b : Bool) → FieldAnswers s c w (added_of c t k form i.at n b) (added_counts c t b) (added_words c w t form i.at n b) x (string_seen (as_string b n i.at))
-        by false = let h = stretch_lies form s k m n i (sym e ∙ is) read in (refl, stays (i.at + n) h.1)
+        by : (b : Bool) → FieldAnswers s c w (added_of c t k form r.next r.value b) (added_counts c t b) (added_words c w t form r.next r.value b) x (string_seen (as_string b))
+        by false = (refl, stays (r.next + r.value) (judged_within form s k r e))
         by true =
-            let h = stretch_lies form s k m n i (sym e ∙ is) read in
+            let h = judged_within form s k r e in
             let may = holds_any t form l in
             rw (length-strings (unlisted c) w t small, count_at c tidy.ten t)
             (case (get_or c t 0) 256
-            (λ u. rw (lt-ltb _ _ u, ← is_added s c w x t form i.at n tidy small may u h.1 h.0) (refl, left_elsewhere s c w x t form i.at n tidy small may u h.1 h.0 l))
+            (λ u. rw (lt-ltb _ _ u, ← is_added s c w x t form r.next r.value tidy small may u h read.0) (refl, left_elsewhere s c w x t form r.next r.value tidy small may u h read.0 l))
             (λ u. rw (le-ltb _ _ u) (refl, rooms)))
 
   -- by its format f, the two bits before the length's in the first octet o
@@ -509,19 +449,19 @@ module _ (s c w x : List ℕ) (t k : ℕ) (tidy : Tidy s c w x) (small : t < 8) 
           let two : bit - 1 + 1 - (bit - 2) ≡ 2 = omega arith in
           rw (← is, ef, low, two)
 
-      module _ (m : Number) (a : Field) (d v : List ℕ) where
-        pub spelled_utf8 : f ≡ 0 → m ≡ field_at (lengths bit) no_top bit s k → FieldAnswers s c w a d v x (string_seen (formed_at link Utf8 s (table_of t) k add m here))
+      module _ (m : Result (Read ℕ) Fault) (a : Result (Read EventString) Fault) (d v : List ℕ) where
+        pub spelled_utf8 : f ≡ 0 → m ≡ field_at (lengths bit) no_top bit s k → FieldAnswers s c w a d v x (by_formed Utf8 add m)
             → FieldAnswers s c w a d v x by_spelled
         unfolding spelled_at
         spelled_utf8 e q p = rw (format_is, e, ← q) p
 
-        pub spelled_utf16 : f ≡ 1 → m ≡ field_at (lengths bit) no_top bit s k → FieldAnswers s c w a d v x (string_seen (formed_at link Utf16 s (table_of t) k add m here))
+        pub spelled_utf16 : f ≡ 1 → m ≡ field_at (lengths bit) no_top bit s k → FieldAnswers s c w a d v x (by_formed Utf16 add m)
             → FieldAnswers s c w a d v x by_spelled
         unfolding spelled_at
         spelled_utf16 e q p = rw (format_is, e, ← q) p
 
         pub spelled_method : (form : StringForm) → (f ≡ 0 → ⊥) → (f ≡ 1 → ⊥) → form ≡ form_by (method_at bit s k) → m ≡ method_length bit f s k (get_or s (suc k) 0 % 2 ^ (9 - bit))
-            → FieldAnswers s c w a d v x (string_seen (formed_at link form s (table_of t) k add m here)) → FieldAnswers s c w a d v x by_spelled
+            → FieldAnswers s c w a d v x (by_formed form add m) → FieldAnswers s c w a d v x by_spelled
         unfolding spelled_at
         spelled_method form a₀ a₁ ef q p = rw (format_is, ne_eqb _ _ a₀, ne_eqb _ _ a₁, ← ef, ← q) p
 
@@ -545,21 +485,21 @@ module _ (s c w x : List ℕ) (t k : ℕ) (tidy : Tidy s c w x) (small : t < 8) 
       unfolding literal_at
       literal_added l = rw (le-ltb _ _ p, lt-ltb _ _ l)
 
-      literal_held : q.numbered_bits ≤ octet → (r : Number) → r ≡ field_at q.number_forms top (number_bit q) s k
-          → (a : Entry) (f : Field) → a ≡ held_of (count_of (unlisted c) t) k r → f ≡ said_of w t a → FieldAnswers s c w f c w x (string_seen literal)
+      literal_held : q.numbered_bits ≤ octet → (m : Result (Read ℕ) Fault) → m ≡ field_at q.number_forms top (number_bit q) s k
+          → (a : Result (Read EventString) Fault) → a ≡ said_by w t (count_of (unlisted c) t) k m → FieldAnswers s c w a c w x (string_seen literal)
       unfolding literal_at
-      literal_held l r is a f ea ef = rw (ef, ea, le-ltb _ _ p, le-ltb _ _ l, ← is, by r) (held_string q.number_forms (number_bit q) r is)
+      literal_held l m is a ea = rw (ea, le-ltb _ _ p, le-ltb _ _ l, ← is, by m) (held_string q.number_forms (number_bit q) m is)
         where
-          by : (r : Number) → string_seen (number r as_numbered) ≡ number r entry_of
-          by (NoNum n p) = refl
-          by (Num n i) = under string_seen (leb n (length table)) _ _
+          by : (m : Result (Read ℕ) Fault) → string_seen (number m as_numbered) ≡ number m entry_of
+          by (Err f) = refl
+          by (Ok r) = under string_seen (leb r.value (length table)) _ _
 
   -- ---- C.14 from bit 1: o is the first octet, b its bit 1
   abbrev pub by_value : S.Got EventString
   by_value = string_seen (value_at link s (table_of t) k here)
 
   module _ (o : ℕ) (is : o ≡ get_or s k 0) where
-    pub value_empty : o ≡ 0xFF → FieldAnswers s c w (Got Empty (k + 1)) c w x by_value
+    pub value_empty : o ≡ 0xFF → FieldAnswers s c w (F.got Empty (k + 1)) c w x by_value
     unfolding value_at
     value_empty e = rw (eq-eqb _ _ (sym is ∙ e), add-one k) (refl, stays (suc k) (there_is s k (omega arith)))
 
@@ -568,12 +508,13 @@ module _ (s c w x : List ℕ) (t k : ℕ) (tidy : Tidy s c w x) (small : t < 8) 
     is_literal ne = rw (ne_eqb _ _ (λ e. ne (is ∙ e)))
 
     module _ (b : ℕ) (eb : b ≡ o / 128 % 2) where
-      pub value_held : (o ≡ 0xFF → ⊥) → b ≡ 1 → (r : Number) → r ≡ field_at c25 top 2 s k → (a : Entry) (f : Field) → a ≡ held_of (count_of (unlisted c) t) k r → f ≡ said_of w t a → FieldAnswers s c w f c w x by_value
+      pub value_held : (o ≡ 0xFF → ⊥) → b ≡ 1 → (m : Result (Read ℕ) Fault) → m ≡ field_at c25 top 2 s k → (a : Result (Read EventString) Fault) → a ≡ said_by w t (count_of (unlisted c) t) k m
+          → FieldAnswers s c w a c w x by_value
       unfolding c14
-      value_held ne one r ir a f ea ef = rw (is_literal ne) (literal_held c14 (omega arith) (omega arith) r ir a f ea ef)
+      value_held ne one m im a ea = rw (is_literal ne) (literal_held c14 (omega arith) (omega arith) m im a ea)
 
       -- a is its add bit
-      pub value_spelled : o < 256 → (b ≡ 1 → ⊥) → (a : ℕ) → a ≡ o / 64 % 2 → (g : Field) (d v : List ℕ)
+      pub value_spelled : o < 256 → (b ≡ 1 → ⊥) → (a : ℕ) → a ≡ o / 64 % 2 → (g : Result (Read EventString) Fault) (d v : List ℕ)
           → FieldAnswers s c w g d v x (string_seen (spelled_at link 5 s (table_of t) k (eqb a 1) here)) → FieldAnswers s c w g d v x by_value
       unfolding c14
       value_spelled fits plain a ea g d v p =
@@ -587,14 +528,15 @@ module _ (s c w x : List ℕ) (t k : ℕ) (tidy : Tidy s c w x) (small : t < 8) 
   by_chunk = string_seen (literal_at link c15 s (table_of t) k here)
 
   module _ (o : ℕ) (is : o ≡ get_or s k 0) (from : 0x80 ≤ o) (to : o < 0xC0) (b : ℕ) (eb : b ≡ o / 32 % 2) where
-    pub chunk_held : b ≡ 1 → (r : Number) → r ≡ field_at (numbers 4) top 4 s k → (a : Entry) (f : Field) → a ≡ held_of (count_of (unlisted c) t) k r → f ≡ said_of w t a → FieldAnswers s c w f c w x by_chunk
+    pub chunk_held : b ≡ 1 → (m : Result (Read ℕ) Fault) → m ≡ field_at (numbers 4) top 4 s k → (a : Result (Read EventString) Fault) → a ≡ said_by w t (count_of (unlisted c) t) k m
+        → FieldAnswers s c w a c w x by_chunk
     unfolding c15
-    chunk_held one r ir a f ea ef =
+    chunk_held one m im a ea =
         let l : 0xA0 ≤ o = omega arith in
-        literal_held c15 (omega arith) (omega arith) r ir a f ea ef
+        literal_held c15 (omega arith) (omega arith) m im a ea
 
     -- a is its add bit
-    pub chunk_spelled : (b ≡ 1 → ⊥) → (a : ℕ) → a ≡ o / 16 % 2 → (g : Field) (d v : List ℕ)
+    pub chunk_spelled : (b ≡ 1 → ⊥) → (a : ℕ) → a ≡ o / 16 % 2 → (g : Result (Read EventString) Fault) (d v : List ℕ)
         → FieldAnswers s c w g d v x (string_seen (spelled_at link 7 s (table_of t) k (eqb a 1) here)) → FieldAnswers s c w g d v x by_chunk
     unfolding c15
     chunk_spelled plain a ea g d v p =

@@ -1,6 +1,9 @@
 -- Contracts of the code, not definitions to be believed. How the code's answers stand for the reading definition: the choices that were found are left out, tables in lent words are the vocabulary that they hold, and a number stands for the entry that has it.
-use Rattle.std.specs.Prelude.{ℕ, zero, suc, ◌+◌, ◌-◌, ◌*◌, ◌≤◌, ◌<◌, ◌≡◌, Bool, ◌||◌, List, [], ◌∷◌, length, ltb, leb}
+use Rattle.std.specs.Prelude.{ℕ, zero, suc, ◌+◌, ◌-◌, ◌*◌, ◌≤◌, ◌<◌, ◌≡◌, Bool, ◌||◌, List, [], ◌∷◌, length, ltb, leb, Result, Ok, Err}
 use Rattle.format.specs.Octets.{Octets, Words}
+use Rattle.format.specs.Refusals.{refusal_number}
+use Rattle.format.specs.declared.refusals.Fault.{Fault}
+use Rattle.fields.specs.declared.Read.{Read}
 use Rattle.format.specs.Tables.{NameTable, Triple, Vocabulary, names}
 use Rattle.tables.specs.declared.Counts.{Counts}
 use Rattle.tables.specs.Located.{Located}
@@ -11,12 +14,7 @@ use Rattle.index.specs.Ordered.{Ordered}
 use Rattle.events.specs.declared.EventString.{EventString}
 use Rattle.events.specs.declared.EventString.TheVariants.{Absent}
 use Rattle.events.specs.Records.{event_string, optional_event_string}
-use Rattle.read_names.specs.declared.Entry.{Entry}
-use Rattle.read_names.specs.declared.Entry.TheVariants.{Got as Numbered, Refused as NotNumbered}
-use Rattle.read_names.specs.declared.Field.{Field}
-use Rattle.read_names.specs.declared.Field.TheVariants.{Got, Refused}
-use Rattle.read_names.specs.declared.Declaration.{Declaration}
-use Rattle.read_names.specs.declared.Declaration.TheVariants.{Got as Declares, Refused as NotDeclares}
+use Rattle.read_names.specs.declared.Binding.{Binding}
 use Rattle.read_names.specs.declared.Parts.{Parts}
 use Rattle.read_names.specs.Strings as S
 use Rattle.read_names.specs.Strings.{IdRead, OptionalRead, StringRead}
@@ -65,18 +63,18 @@ pub record Seen : Type 0 where
   pub text : EventString
   pub number : ℕ
 
-abbrev pub seen_id : (table : ℕ) → Entry → (d v : Words) → S.Got Seen
-seen_id table (Numbered n at) d v = S.got (record { text = event_string_at v table n; number = n }) at (vocabulary (unlisted d) v)
-seen_id table (NotNumbered n p) d v = S.refused n p
+abbrev pub seen_id : (table : ℕ) → Result (Read ℕ) Fault → (d v : Words) → S.Got Seen
+seen_id table (Ok r) d v = S.got (record { text = event_string_at v table r.value; number = r.value }) r.next (vocabulary (unlisted d) v)
+seen_id table (Err e) d v = S.refused (refusal_number e.refusal) e.at
 
-abbrev pub IdLeft : Octets → (c w : Words) → (table : ℕ) → Entry → (d v : Words) → Octets → Type 0
-IdLeft s c w table (Numbered n at) d v x = Left s c w at d v x × (n ≤ count_of (unlisted d) table)
-IdLeft s c w table (NotNumbered n p) d v x = Rooms d v
+abbrev pub IdLeft : Octets → (c w : Words) → (table : ℕ) → Result (Read ℕ) Fault → (d v : Words) → Octets → Type 0
+IdLeft s c w table (Ok r) d v x = Left s c w r.next d v x × (r.value ≤ count_of (unlisted d) table)
+IdLeft s c w table (Err e) d v x = Rooms d v
 
 -- Numbers start from 1.
-abbrev pub Positive : Entry → Type 0
-Positive (Numbered n at) = 1 ≤ n
-Positive (NotNumbered n p) = Unit {0}
+abbrev pub Positive : Result (Read ℕ) Fault → Type 0
+Positive (Ok r) = 1 ≤ r.value
+Positive (Err e) = Unit {0}
 
 abbrev pub id_seen : S.Got IdRead → S.Got Seen
 id_seen (S.got b next v) = S.got (record { text = event_string b.string; number = b.number }) next v
@@ -87,55 +85,56 @@ optional_seen (S.got b next v) = S.got (record { text = optional_event_string b.
 optional_seen (S.refused n p) = S.refused n p
 
 -- ---- a string that has no number of its own
-abbrev pub seen_field : Field → (d v : Words) → S.Got EventString
-seen_field (Got y at) d v = S.got y at (vocabulary (unlisted d) v)
-seen_field (Refused n p) d v = S.refused n p
+abbrev pub seen_field : Result (Read EventString) Fault → (d v : Words) → S.Got EventString
+seen_field (Ok r) d v = S.got r.value r.next (vocabulary (unlisted d) v)
+seen_field (Err e) d v = S.refused (refusal_number e.refusal) e.at
 
-abbrev pub FieldLeft : Octets → (c w : Words) → Field → (d v : Words) → Octets → Type 0
-FieldLeft s c w (Got y at) d v x = Left s c w at d v x
-FieldLeft s c w (Refused n p) d v x = Rooms d v
+abbrev pub FieldLeft : Octets → (c w : Words) → Result (Read EventString) Fault → (d v : Words) → Octets → Type 0
+FieldLeft s c w (Ok r) d v x = Left s c w r.next d v x
+FieldLeft s c w (Err e) d v x = Rooms d v
 
 abbrev pub string_seen : S.Got StringRead → S.Got EventString
 string_seen (S.got b next v) = S.got (event_string b.string) next v
 string_seen (S.refused n p) = S.refused n p
 
 -- ---- a name, by its number
-abbrev pub seen_name : (table : ℕ) → Entry → (d v : Words) → S.Got Parts
-seen_name table (Numbered n at) d v = S.got (name_strings_at v table n) at (vocabulary (unlisted d) v)
-seen_name table (NotNumbered n p) d v = S.refused n p
+abbrev pub seen_name : (table : ℕ) → Result (Read ℕ) Fault → (d v : Words) → S.Got Parts
+seen_name table (Ok r) d v = S.got (name_strings_at v table r.value) r.next (vocabulary (unlisted d) v)
+seen_name table (Err e) d v = S.refused (refusal_number e.refusal) e.at
 
 abbrev pub name_seen : S.Got NameRead → S.Got Parts
 name_seen (S.got b next v) = S.got (record { prefix = optional_event_string b.name.prefix; namespace = optional_event_string b.name.namespace; local = event_string b.name.local }) next v
 name_seen (S.refused n p) = S.refused n p
 
 -- ---- a declaration, which has no local name
-abbrev pub seen_declared : Declaration → (d v : Words) → S.Got Parts
-seen_declared (Declares p n at) d v = S.got (record { prefix = event_string_at v 0 p; namespace = event_string_at v 1 n; local = Absent }) at (vocabulary (unlisted d) v)
-seen_declared (NotDeclares n p) d v = S.refused n p
+abbrev pub seen_declared : Result (Read Binding) Fault → (d v : Words) → S.Got Parts
+seen_declared (Ok r) d v =
+    S.got (record { prefix = event_string_at v 0 r.value.prefix; namespace = event_string_at v 1 r.value.namespace; local = Absent }) r.next (vocabulary (unlisted d) v)
+seen_declared (Err e) d v = S.refused (refusal_number e.refusal) e.at
 
-abbrev pub DeclaredLeft : Octets → (c w : Words) → Declaration → (d v : Words) → Octets → Type 0
-DeclaredLeft s c w (Declares p n at) d v x = Left s c w at d v x × (p ≤ 256) × (n ≤ 256)
-DeclaredLeft s c w (NotDeclares n p) d v x = Rooms d v
+abbrev pub DeclaredLeft : Octets → (c w : Words) → Result (Read Binding) Fault → (d v : Words) → Octets → Type 0
+DeclaredLeft s c w (Ok r) d v x = Left s c w r.next d v x × (r.value.prefix ≤ 256) × (r.value.namespace ≤ 256)
+DeclaredLeft s c w (Err e) d v x = Rooms d v
 
 abbrev pub declared_seen : S.Got DeclaredRead → S.Got Parts
 declared_seen (S.got b next v) = S.got (record { prefix = optional_event_string b.prefix; namespace = optional_event_string b.namespace; local = Absent }) next v
 declared_seen (S.refused n p) = S.refused n p
 
 -- ---- what a function answers and leaves: r is what f reads from the tables that words c and w of counts and tables hold, these are d and v then, and the index is x
-abbrev pub ReadsId : Octets → (c w : Words) (table : ℕ) → Entry → (d v : Words) → Octets → (Vocabulary Located → S.Got IdRead) → Type 0
+abbrev pub ReadsId : Octets → (c w : Words) (table : ℕ) → Result (Read ℕ) Fault → (d v : Words) → Octets → (Vocabulary Located → S.Got IdRead) → Type 0
 ReadsId s c w table r d v x f = (seen_id table r d v ≡ id_seen (f (vocabulary (unlisted c) w))) × IdLeft s c w table r d v x × Positive r
 
-abbrev pub ReadsOptional : Octets → (c w : Words) (table : ℕ) → Entry → (d v : Words) → Octets → (Vocabulary Located → S.Got OptionalRead) → Type 0
+abbrev pub ReadsOptional : Octets → (c w : Words) (table : ℕ) → Result (Read ℕ) Fault → (d v : Words) → Octets → (Vocabulary Located → S.Got OptionalRead) → Type 0
 ReadsOptional s c w table r d v x f = (seen_id table r d v ≡ optional_seen (f (vocabulary (unlisted c) w))) × IdLeft s c w table r d v x
 
-abbrev pub ReadsName : Octets → (c w : Words) (table : ℕ) → Entry → (d v : Words) → Octets → (Vocabulary Located → S.Got NameRead) → Type 0
+abbrev pub ReadsName : Octets → (c w : Words) (table : ℕ) → Result (Read ℕ) Fault → (d v : Words) → Octets → (Vocabulary Located → S.Got NameRead) → Type 0
 ReadsName s c w table r d v x f = (seen_name table r d v ≡ name_seen (f (vocabulary (unlisted c) w))) × IdLeft s c w table r d v x × Positive r
 
-abbrev pub ReadsDeclared : Octets → (c w : Words) → Declaration → (d v : Words) → Octets → (Vocabulary Located → S.Got DeclaredRead) → Type 0
+abbrev pub ReadsDeclared : Octets → (c w : Words) → Result (Read Binding) Fault → (d v : Words) → Octets → (Vocabulary Located → S.Got DeclaredRead) → Type 0
 ReadsDeclared s c w r d v x f = (seen_declared r d v ≡ declared_seen (f (vocabulary (unlisted c) w))) × DeclaredLeft s c w r d v x
 
 -- Whatever the index is: a string without a number of its own is not looked up in it.
-abbrev pub ReadsField : Octets → (c w : Words) → Field → (d v : Words) → (Vocabulary Located → S.Got StringRead) → Type 0
+abbrev pub ReadsField : Octets → (c w : Words) → Result (Read EventString) Fault → (d v : Words) → (Vocabulary Located → S.Got StringRead) → Type 0
 ReadsField s c w r d v f = (x : Octets) → Tidy s c w x → (seen_field r d v ≡ string_seen (f (vocabulary (unlisted c) w))) × FieldLeft s c w r d v x
 
 -- A name's number is that of a row whose numbers are those of rows.

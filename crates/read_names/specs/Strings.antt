@@ -1,5 +1,5 @@
 -- Reading a string: C.13, C.14, C.15 over C.19, C.20. Each field's tests stand in the required order; the first that fails gives the refusal, at the field's first octet.
-use Rattle.std.specs.Prelude.{ℕ, suc, ◌+◌, ◌-◌, ◌*◌, ◌/◌, ◌%◌, ◌^◌, Bool, true, false, not, ◌||◌, ◌&&◌, map, length, get_or, eqb, ltb, leb}
+use Rattle.std.specs.Prelude.{ℕ, suc, ◌+◌, ◌-◌, ◌*◌, ◌/◌, ◌%◌, ◌^◌, Bool, true, false, not, ◌||◌, ◌&&◌, map, length, get_or, eqb, ltb, leb, Result, Ok, Err}
 use Rattle.std.proofs.Math.Option.{Option, none, some}
 use Rattle.format.specs.Octets.{Octets}
 use Rattle.format.specs.Numbers.{pick, lengths, c25, top}
@@ -8,11 +8,13 @@ use Rattle.fields.specs.Utf8.{is_text}
 use Rattle.format.specs.Events.{How, spelled, numbered}
 use Rattle.format.specs.Tables.{StringTable, Vocabulary, strings, adding, holds, Version}
 use Rattle.format.specs.Strings.{Layout, c14, keeping}
-use Rattle.format.specs.Refusals.{TRUNCATED, PADDING, FORMAT, TEXT, INDEX, REPEAT, FULL}
+use Rattle.format.specs.Refusals.{refusal_number, TRUNCATED, TEXT, INDEX, REPEAT, FULL}
 use Rattle.format.specs.declared.StringForm.{StringForm}
 use Rattle.format.specs.declared.StringForm.TheVariants.{Utf8, Utf16}
-use Rattle.fields.specs.declared.Number.{Number}
-use Rattle.fields.specs.declared.Number.TheVariants.{Got as Num, Refused as NoNum}
+use Rattle.format.specs.declared.refusals.Fault.{Fault}
+use Rattle.format.specs.declared.refusals.Refusal.TheVariants.{Truncated, Padding, Format}
+use Rattle.fields.specs.declared.Read.{Read}
+use Rattle.fields.specs.Fields as F
 use Rattle.fields.specs.Fields.{value_from, field_at, no_top}
 use Rattle.tables.specs.Located.{Located, empty, stretch, octets_of}
 
@@ -26,9 +28,9 @@ abbrev pub then : {B C : Type 0} → Got B → (B → ℕ → Vocabulary Located
 then (got b next v) f = f b next v
 then (refused n p) f = refused n p
 
-abbrev pub number : {C : Type 0} → Number → (ℕ → ℕ → Got C) → Got C
-number (Num n c) f = f n c.at
-number (NoNum n p) f = refused n p
+abbrev pub number : {C : Type 0} → Result (Read ℕ) Fault → (ℕ → ℕ → Got C) → Got C
+number (Ok r) f = f r.value r.next
+number (Err e) f = refused (refusal_number e.refusal) e.at
 
 -- n octets from `next` on, in a form: they pass the end (2), are no text (9).
 unfoldable pub spelling : {C : Type 0} → StringForm → Octets → (k next n : ℕ) → Got C → Got C
@@ -48,16 +50,16 @@ unfoldable pub form_by : (method : ℕ) → StringForm
 form_by method = form_of (2 + method)
 
 -- The length is n and has `more` octets behind the second: an octet of the field is missing (2), another alphabet or algorithm (8), padding (6).
-unfoldable pub method_behind : (bit format : ℕ) → Octets → (k more n : ℕ) → (clean : Bool) → Number
+unfoldable pub method_behind : (bit format : ℕ) → Octets → (k more n : ℕ) → (clean : Bool) → Result (Read ℕ) Fault
 method_behind bit format s k more n clean =
     pick (leb (k + 2 + more + n) (length s))
     (pick (is_read format (method_at bit s k))
-    (pick clean (Num n (record { at = k + 2 + more })) (NoNum PADDING k))
-    (NoNum FORMAT k))
-    (NoNum TRUNCATED k)
+    (pick clean (F.got n (k + 2 + more)) (F.refused Padding k))
+    (F.refused Format k))
+    (F.refused Truncated k)
 
 -- b are the length's bits in the second octet: coded 0 and the length; or 10 or 11, zero bits, and one or four octets. The octets are counted by the code, whatever the zero bits are.
-unfoldable pub method_length : (bit format : ℕ) → Octets → (k b : ℕ) → Number
+unfoldable pub method_length : (bit format : ℕ) → Octets → (k b : ℕ) → Result (Read ℕ) Fault
 method_length bit format s k b =
     pick (ltb b (2 ^ (8 - bit))) (method_behind bit format s k 0 (1 + b) true)
     (pick (ltb b (3 * 2 ^ (7 - bit)))
@@ -105,7 +107,7 @@ module _ (ver : Version) where
   optional_at false s t k v = got (record { string = none; how = none; number = 0 }) k v
 
   -- A string of C.14 or C.15 whose octets are in a form, its length read as r: 2, 9, then no room in the table, if it is to be added (12).
-  unfoldable pub formed_at : StringForm → Octets → StringTable → ℕ → Bool → Number → Vocabulary Located → Got StringRead
+  unfoldable pub formed_at : StringForm → Octets → StringTable → ℕ → Bool → Result (Read ℕ) Fault → Vocabulary Located → Got StringRead
   formed_at form s t k added r v =
       number r
       λ n next. spelling form s k next n

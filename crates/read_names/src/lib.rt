@@ -9,25 +9,11 @@ use events::EventString;
 pub use names::{declared, in_parts, name, numbered, string_at, strings_of};
 pub use strings::{chunk, formed, held, id, in_form, octet, value};
 
-// The number of a string or a name in its table, and where the next field starts; or the refusal and its place.
+// What a declaration binds: the numbers of its prefix and its namespace, 0 where there is none, as in a name's row of its table.
 #[derive(Clone, Copy)]
-pub enum Entry {
-    Got(u32, usize),
-    Refused(u32, usize),
-}
-
-// A string, and where the next field starts; or the refusal and its place.
-#[derive(Clone, Copy)]
-pub enum Field {
-    Got(EventString, usize),
-    Refused(u32, usize),
-}
-
-// The numbers of a declaration's prefix and namespace, 0 where there is none, and where the next field starts; or the refusal and its place.
-#[derive(Clone, Copy)]
-pub enum Declaration {
-    Got(u32, u32, usize),
-    Refused(u32, usize),
+pub struct Binding {
+    pub prefix: u32,
+    pub namespace: u32,
 }
 
 // A name's strings.

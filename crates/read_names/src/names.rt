@@ -13,25 +13,27 @@ ghost use Rattle.read_names.specs.Promises.{Tidy, Positive, event_string_at, nam
 ghost use Rattle.read_names.specs.NameContracts.{Addable, NewAbove, AddsName, ReadsNumbered};
 
 use crate::strings::{held, id, optional, string_of};
-use crate::{Declaration, Entry, Parts};
+use crate::{Binding, Parts};
 use events::EventString;
-use fields::{Cursor, Number, bits};
-use format::refusals::{CODE, FULL, PADDING, REPEAT, STRUCTURE, TRUNCATED};
+use fields::{Cursor, Read, Reading, bits};
+use format::refusals::Refusal;
 use format::table::{ELEMENT_NAME, LOCAL_NAME, NAMESPACE_NAME, PREFIX};
 use tables::{Counts, Row};
 
 // The number of a name of table 8 or 9, C.27 or C.25.
-fn number(s: &[u8], at: usize, table: usize) -> Number
+#[tactic(auto, unfolding(tables::specs::Kept::layout_of, format::specs::Names::of_element, format::specs::Names::of_attribute))]
+fn number(s: &[u8], at: usize, table: usize) -> Reading<u64>
     ensures { result ≡ field_at (layout_of table).number_forms top (name_bit (layout_of table).table) s.now at }
 {
     let cursor = Cursor { at };
     if table == ELEMENT_NAME {
-        return cursor.number_at_bit_3(s);
+        return cursor.number::<3>(s);
     }
     cursor.number_at_bit_2(s)
 }
 
 // The string behind a number of a table of identifying strings; 0 is none.
+#[tactic(auto, using(crate::proofs::StringLaws::string_none, crate::proofs::StringLaws::string_there))]
 pub fn string_at(t: &[u32], table: usize, number: u32) -> EventString
     requires { (length t.now ≡ table_words) × (table < 5) × (number ≤ 256) }
     ensures { result ≡ event_string_at t.now table number }
@@ -43,6 +45,7 @@ pub fn string_at(t: &[u32], table: usize, number: u32) -> EventString
 }
 
 // The strings behind a name's number.
+#[tactic(auto, using(crate::proofs::NameLaws::row_is, crate::proofs::NameLaws::strings_are_lem))]
 pub fn strings_of(t: &[u32], table: usize, number: u32) -> Parts
     requires { NameThere t.now table number }
     ensures { result ≡ name_strings_at t.now table number }
@@ -76,20 +79,20 @@ fn triple(
     next: usize,
     x: Row,
     locals: u32,
-) -> Entry
+) -> Reading<u32>
     requires { Addable counts.old t.old index.old table x × NewAbove counts.old t.old table x locals }
     ensures { AddsName counts.old t.old index.old table place next x result counts.new t.new index.new }
 {
     let n = counts[table];
     if find_name(t, index, table, n, x, locals) != 0 {
-        return Entry::Refused(REPEAT, place);
+        return Err(Refusal::Repeat.at(place));
     }
     if Counts::ENTRIES <= n {
-        return Entry::Refused(FULL, place);
+        return Err(Refusal::Full.at(place));
     }
     index::enter_name(t, index, table, n, x.a, x.b, x.c, 0);
     counts[table] = n + 1;
-    Entry::Got(n + 1, next)
+    Ok(Read { value: n + 1, next })
 }
 
 // A name in parts, its p and n in the octet b; table 8 is the elements', 9 the attributes'.
@@ -101,53 +104,33 @@ pub fn in_parts(
     table: usize,
     at: usize,
     b: u8,
-) -> Entry
+) -> Reading<u32>
     requires { (Tidy s.now counts.old t.old index.old) × (at < length s.now) × (8 ≤ table) × (table < 10) }
     ensures { ReadsName s.now counts.old t.old table result counts.new t.new index.new (parts_at link (layout_of table) s.now b at) }
 {
     let pn = bits(b, 7, 8);
     if pn == 2 {
-        return Entry::Refused(STRUCTURE, at);
+        return Err(Refusal::Structure.at(at));
     }
-    let first = optional(2 <= pn, s, t, counts, index, PREFIX, at + 1);
-    let Entry::Got(p, behind_prefix) = first else {
-        return first;
-    };
-    let second = optional(
-        bits(b, 8, 8) == 1,
-        s,
-        t,
-        counts,
-        index,
-        NAMESPACE_NAME,
-        behind_prefix,
-    );
-    let Entry::Got(n, behind_namespace) = second else {
-        return second;
-    };
+    let prefix = optional(2 <= pn, s, t, counts, index, PREFIX, at + 1)?;
+    let there = bits(b, 8, 8) == 1;
+    let namespace = optional(there, s, t, counts, index, NAMESPACE_NAME, prefix.next)?;
     let locals = counts[LOCAL_NAME];
-    let third = id(s, t, counts, index, LOCAL_NAME, behind_namespace);
-    let Entry::Got(l, next) = third else {
-        return third;
+    let local = id(s, t, counts, index, LOCAL_NAME, namespace.next)?;
+    let x = Row {
+        a: prefix.value,
+        b: namespace.value,
+        c: local.value,
     };
-    triple(
-        t,
-        counts,
-        index,
-        table,
-        at,
-        next,
-        Row { a: p, b: n, c: l },
-        locals,
-    )
+    triple(t, counts, index, table, at, local.next, x, locals)
 }
 
 // A name by number.
-pub fn numbered(s: &[u8], counts: &[u32], table: usize, at: usize) -> Entry
+pub fn numbered(s: &[u8], counts: &[u32], table: usize, at: usize) -> Reading<u32>
     requires { (length counts.now ≡ 10) × (8 ≤ table) × (table < 10) × (count_of (unlisted counts.now) table ≤ 256) }
     ensures { ReadsNumbered s.now counts.now table at result × Positive result }
 {
-    held(counts, table, at, number(s, at, table))
+    held(counts, table, at, number(s, at, table)?)
 }
 
 // A name whose part of its first octet is b: by number, or in parts.
@@ -159,7 +142,7 @@ pub fn name(
     table: usize,
     at: usize,
     b: u8,
-) -> Entry
+) -> Reading<u32>
     requires { (Tidy s.now counts.old t.old index.old) × (at < length s.now) × (8 ≤ table) × (table < 10) }
     ensures { ReadsName s.now counts.old t.old table result counts.new t.new index.new (name_at link (layout_of table) s.now b at) }
 {
@@ -176,38 +159,31 @@ pub fn declared(
     counts: &mut [u32],
     index: &mut [u8],
     at: usize,
-) -> Declaration
+) -> Reading<Binding>
     requires { (Tidy s.now counts.old t.old index.old) × (at ≤ length s.now) }
     ensures { ReadsDeclared s.now counts.old t.old result counts.new t.new index.new (declared_at link s.now at) }
 {
     if s.len() <= at {
-        return Declaration::Refused(TRUNCATED, at);
+        return Err(Refusal::Truncated.at(at));
     }
     let b = s[at];
     if b == 0xF0 {
-        return Declaration::Refused(STRUCTURE, at);
+        return Err(Refusal::Structure.at(at));
     }
     if 0xF0 < b {
-        return Declaration::Refused(PADDING, at);
+        return Err(Refusal::Padding.at(at));
     }
     if bits(b, 1, 6) != 0x33 {
-        return Declaration::Refused(CODE, at);
+        return Err(Refusal::Code.at(at));
     }
-    match optional(2 <= bits(b, 7, 8), s, t, counts, index, PREFIX, at + 1) {
-        Entry::Refused(k, place) => Declaration::Refused(k, place),
-        Entry::Got(p, behind) => {
-            match optional(
-                bits(b, 8, 8) == 1,
-                s,
-                t,
-                counts,
-                index,
-                NAMESPACE_NAME,
-                behind,
-            ) {
-                Entry::Refused(k, place) => Declaration::Refused(k, place),
-                Entry::Got(n, next) => Declaration::Got(p, n, next),
-            }
-        }
-    }
+    let prefix = optional(2 <= bits(b, 7, 8), s, t, counts, index, PREFIX, at + 1)?;
+    let there = bits(b, 8, 8) == 1;
+    let namespace = optional(there, s, t, counts, index, NAMESPACE_NAME, prefix.next)?;
+    Ok(Read {
+        value: Binding {
+            prefix: prefix.value,
+            namespace: namespace.value,
+        },
+        next: namespace.next,
+    })
 }

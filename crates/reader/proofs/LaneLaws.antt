@@ -1,7 +1,7 @@
 -- The quick lane: what each of its items is as a step, and steps one behind the other.
 -- Assumes nothing.
 use mathlib.Core.Path.{◌≡◌, refl, sym, ap, ◌∙◌}
-use mathlib.Core.Bool.{true, false, ◌&&◌}
+use mathlib.Core.Bool.{Bool, true, false, ◌&&◌}
 use mathlib.Core.List.{List}
 use Prim.Native.Nat.{ℕ, zero, suc, ◌+◌, ◌-◌, ◌*◌, ◌/◌, ◌%◌, ◌^◌, ◌≤◌, ◌<◌}
 use native.Mathlib.Omega.{arith}
@@ -9,16 +9,18 @@ use native.Mathlib.Decide.{ℕ_discrete}
 use borrow.Author.Tests.{lt-ltb, eq-eqb, ne_eqb, eqb-true, ltb-true, leb-true}
 use lib.Dec.{eqb, ltb, leb}
 use lib.ListN.{length, get_or, take, drop}
+use Rattle.std.proofs.lemmas.List.{take_all}
+use Rattle.std.specs.Prelude.{Result as Answered, Ok, Err, Option, Some, None}
+use Rattle.std.specs.Result.{result_ok}
+use Rattle.format.specs.declared.refusals.Fault.{Fault}
 use Rattle.format.specs.Octets.{Octets, Words}
 use Rattle.format.specs.Numbers.{lengths, numbers, top}
 use Rattle.format.specs.Tables.{Triple, link}
 use Rattle.format.specs.Strings.{c15}
 use Rattle.format.specs.Forms.{form_of}
 use Rattle.format.specs.declared.StringForm.TheVariants.{Utf8}
-use Rattle.fields.specs.declared.Cursor.{Cursor}
-use Rattle.fields.specs.declared.Number.{Number}
-use Rattle.fields.specs.declared.Number.TheVariants.{Got as Num}
-use Rattle.fields.specs.Fields.{value_from, field_at, no_top}
+use Rattle.fields.specs.declared.Read.{Read}
+use Rattle.fields.specs.Fields.{value_from, field_at, no_top, got}
 use Rattle.fields.specs.Utf8.{is_text}
 use Rattle.fields.proofs.Laws.{sizes_in, rooms_in}
 use Rattle.fields.proofs.Cases.{behind_got, field_form}
@@ -26,9 +28,11 @@ use Rattle.fields.proofs.Utf8.{plain_text}
 use Rattle.fields.proofs.Numbers.{number_shares, number_values, numbers_are}
 use Rattle.tables.specs.declared.Row.{Row}
 use Rattle.tables.specs.Counts.{table_words}
+use Rattle.tables.specs.Located.{stretch, octets_of}
 use Rattle.tables.specs.Rows.{table_of, string_at, triple_at, vocabulary}
 use Rattle.tables.specs.Kept.{count_of, unlisted, layout_of, row_at}
 use Rattle.tables.proofs.Found.{both_true}
+use Rattle.tables.proofs.Search.{octets_stretch}
 use Rattle.states.specs.declared.State.{State}
 use Rattle.states.specs.States.{mode_of, after_end}
 use Rattle.events.specs.declared.EventString.{EventString}
@@ -37,17 +41,15 @@ use Rattle.events.specs.declared.Kind.TheVariants.{Start}
 use Rattle.events.specs.declared.Event.{Event}
 use Rattle.events.specs.Records.{event_string, start_record, chunk_record, end_record}
 use Rattle.events.specs.Kept.{kept}
-use Rattle.read_names.specs.declared.Entry.TheVariants.{Got as Numbered}
-use Rattle.read_names.specs.declared.Field.TheVariants.{Got}
 use Rattle.read_names.specs.declared.Parts.{Parts}
 use Rattle.read_names.specs.Strings.{literal_at}
 use Rattle.read_names.specs.Names.{numbered_at}
 use Rattle.read_names.specs.Promises.{Tidy, IdLeft, seen_name, name_seen, string_seen, event_string_at, name_strings_at, NameThere}
 use Rattle.index.proofs.Counted.{count_at}
 use Rattle.read_names.proofs.Grown.{name_ranged}
-use Rattle.read_names.proofs.StringLaws.{length-read, stretch_text, entry_octets, entry_formed, string_none, string_there, held_entry, said_entry, FieldAnswers, table_small, formed_added, spelled_utf8, chunk_held, chunk_spelled}
+use Rattle.read_names.proofs.StringLaws.{length-read, judged_text, entry_octets, entry_formed, string_none, string_there, held_entry, said_entry, FieldAnswers, table_small, formed_added, spelled_utf8, chunk_held, chunk_spelled}
 use Rattle.read_names.proofs.NameLaws.{element_number, row_is, strings_are_lem, number_held}
-use Rattle.read_items.specs.declared.Step.TheVariants.{More}
+use Rattle.read_items.specs.declared.Step.TheVariants.{Event as Found}
 use Rattle.read_items.specs.Items as I
 use Rattle.read_items.specs.Items.{Stand, child_at, item_at}
 use Rattle.read_items.specs.Steps.{half_at, pads_at, step}
@@ -58,10 +60,9 @@ use Rattle.read_items.proofs.Fields.{name_there}
 use Rattle.read_items.proofs.EndLaws.{half_high, half_low, pads_even, pads_odd, ends_half, end_element}
 use Rattle.read_items.proofs.ItemLaws.{padding_none, chunk_more, start_met, element_numbered, child_element, child_text, item_child, step_end, step_item}
 use Rattle.reader.specs.declared.lane.Lane.{Lane}
-use Rattle.reader.specs.declared.lane.Named.{Named}
 use Rattle.reader.specs.Reading.{Result, turn, run}
 use Rattle.reader.specs.RunContracts.{ending_of, kept_from}
-use Rattle.reader.specs.LaneContracts.{Underway, Tidied, Onward, in_lane, enters_lane, Stands, Skims, Advances, ReadsShort, AddsChunk}
+use Rattle.reader.specs.LaneContracts.{Underway, Tidied, Onward, in_lane, enters_lane, Stands, Skims, Takes, Advances, ReadsShort, AddsChunk}
 use Rattle.reader.proofs.RunLaws.{run_one, underway_more}
 
 -- ---- one behind the other
@@ -69,23 +70,23 @@ module _ {s : Octets} {n : ℕ} {st : State} {t c r : Words} where
   pub onward-same : {full : ℕ} → n ≤ full → Tidied s c t → Onward s full st n t c r st n t c r
   onward-same h d = record { less = omega arith; most = h; tidied = d; goes = λ {v} {room} {from} {left} f l u. let z : n + left - n ≡ left = omega arith in rw z u }
 
-  onward_then : {full m k : ℕ} {st₁ st₂ : State} {t₁ c₁ r₁ t₂ c₂ r₂ : Words} → Onward s full st n t c r st₁ m t₁ c₁ r₁ → m < full → Onward s (m + 1) st₁ m t₁ c₁ r₁ st₂ k t₂ c₂ r₂ → Onward s full st n t c r st₂ k t₂ c₂ r₂
-  onward_then {m = m} {k = k} a h b =
+  onward_then : {full m k : ℕ} {st₁ st₂ : State} {t₁ c₁ r₁ t₂ c₂ r₂ : Words} → Onward s full st n t c r st₁ m t₁ c₁ r₁ → Onward s full st₁ m t₁ c₁ r₁ st₂ k t₂ c₂ r₂ → Onward s full st n t c r st₂ k t₂ c₂ r₂
+  onward_then {m = m} {k = k} a b =
       let al = a.less in
+      let am = a.most in
       let bl = b.less in
-      let bm = b.most in
       record {
         less = omega arith;
-        most = omega arith;
+        most = b.most;
         tidied = b.tidied;
         goes = λ {v} {room} {from} {left} f l u.
             let z : m + (n + left - m) - k ≡ n + left - k = omega arith in
-            rw z at (b.goes (omega arith) (omega arith) (a.goes f l u));
+            rw z at (b.goes f (omega arith) (a.goes f l u));
       }
 
   -- one step
   onward_one : {st' : State} {p : ℕ} {t' c' r' : Words} → Tidied s c' t' → length r' ≡ length r
-      → ((x : Octets) → Good s st (lent t c x r) → Met s st n (lent t c x r) (More st' p) (lent t' c' x r') (step link s))
+      → ((x : Octets) → Good s st (lent t c x r) → Met s st n (lent t c x r) (Ok (Found st' p)) (lent t' c' x r') (step link s))
       → Onward s (n + 1) st n t c r st' (n + 1) t' c' r'
   onward_one d same m =
       record {
@@ -176,129 +177,128 @@ module _ (s : Octets) (st : State) (a : Lent) (k : ℕ) (m : st.mode ≡ 0) wher
 
 -- ---- numbers of one octet or two
 module _ (s : Octets) (at b ones : ℕ) (h : at + 1 < length s) (small : ones ≤ 64) where
-  pub row_one : {row next : ℕ} → b < ones → row ≡ b → next ≡ at + 1 → ReadsShort s at b ones (record { row = row; next = next })
+  pub row_one : {value : ℕ} → b < ones → value ≡ b → ReadsShort s at b ones (record { value = value; next = at + 1 })
   unfolding value_from sizes_in rooms_in
-  row_one l er en bit f u e q =
+  row_one l e bit f u o q =
       let n : 1 + b ≡ b + 1 = omega arith in
       let p : at + 1 + 0 ≡ at + 1 = omega arith in
-      rw (er, en)
-      (sym (rw (n, p) at (behind_got s at b 0 1 (2 ^ (8 - bit)) top b (omega arith) refl (omega arith) (omega arith)
-      ∙ field_form top bit s at (numbers bit) (number_shares bit) (numbers_are bit f u) (omega arith) 0 tt _ _ _ _ refl b (omega arith) 1 _ refl refl (omega arith))))
+      rw e
+      (rw (n, p) at (field_form top bit s at (numbers bit) (number_shares bit) (numbers_are bit f u) (omega arith) 0 tt _ _ _ _ refl b (omega arith) 1 _ refl refl (omega arith)
+      ∙ behind_got s at b 0 1 (2 ^ (8 - bit)) top b (omega arith) refl (omega arith) (omega arith)))
 
-  pub row_two : {row next : ℕ} → ones ≤ b → b < ones + ones / 4 → get_or s (at + 1) 0 < 256 → row ≡ 256 * (b - ones) + get_or s (at + 1) 0 + ones → next ≡ at + 2
-      → ReadsShort s at b ones (record { row = row; next = next })
+  pub row_two : {value : ℕ} → ones ≤ b → b < ones + ones / 4 → get_or s (at + 1) 0 < 256 → value ≡ 256 * (b - ones) + get_or s (at + 1) 0 + ones
+      → ReadsShort s at b ones (record { value = value; next = at + 2 })
   unfolding value_from sizes_in rooms_in
-  row_two l g o er en bit f u e q =
+  row_two l g o e bit f u z q =
       let w = number_values bit u in
       let n : 1 + 2 ^ (8 - bit) + ((b - ones) * 256 + get_or s (at + 1) 0) ≡ 256 * (b - ones) + get_or s (at + 1) 0 + ones + 1 = omega arith in
       let p : at + 1 + 1 ≡ at + 2 = omega arith in
-      rw (er, en)
-      (sym (rw (n, p) at (behind_got s at (b - ones) 1 (1 + 2 ^ (8 - bit)) (2 ^ (14 - bit)) top ((b - ones) * 256 + get_or s (at + 1) 0) (omega arith) refl (omega arith) (omega arith)
-      ∙ field_form top bit s at (numbers bit) (number_shares bit) (numbers_are bit f u) (omega arith) 1 (omega arith) _ _ _ _ refl (b - ones) (omega arith) _ _ (omega arith) refl (omega arith))))
+      rw e
+      (rw (n, p) at (field_form top bit s at (numbers bit) (number_shares bit) (numbers_are bit f u) (omega arith) 1 (omega arith) _ _ _ _ refl (b - ones) (omega arith) _ _ (omega arith) refl (omega arith)
+      ∙ behind_got s at (b - ones) 1 (1 + 2 ^ (8 - bit)) (2 ^ (14 - bit)) top ((b - ones) * 256 + get_or s (at + 1) 0) (omega arith) refl (omega arith) (omega arith)))
 
 -- ---- what is read there, with any index
 module _ (s c t : List ℕ) (at o : ℕ) where
-  read-start : (x : Named) → o ≡ get_or s at 0 % 2 ^ (9 - 3) → ReadsShort s at o 0x20 x → x.row < get_or c 8 0 → (i : Octets) → Tidy s c t i
-      → (seen_name 8 (Numbered (x.row + 1) x.next) c t ≡ name_seen (numbered_at link (layout_of 8) s at (vocabulary (unlisted c) t))) × IdLeft s c t 8 (Numbered (x.row + 1) x.next) c t i
+  read-start : (x : Read ℕ) → o ≡ get_or s at 0 % 2 ^ (9 - 3) → ReadsShort s at o 0x20 x → x.value < get_or c 8 0 → (i : Octets) → Tidy s c t i
+      → (seen_name 8 (got (x.value + 1) x.next) c t ≡ name_seen (numbered_at link (layout_of 8) s at (vocabulary (unlisted c) t))) × IdLeft s c t 8 (got (x.value + 1) x.next) c t i
   read-start x b q h i tidy =
       number_held s c t i 8 at tidy (omega arith) (omega arith) _ (sym (q 3 (omega arith) (omega arith) refl b) ∙ element_number 8 refl s at) _
-      (held_entry _ at _ (x.row + 1) (record { at = x.next }) refl (rw (count_at c tidy.ten 8) (omega arith)))
+      (held_entry _ at (record { value = x.value + 1; next = x.next }) (rw (count_at c tidy.ten 8) (omega arith)))
 
 -- A chunk's string v, and the octet behind it.
 abbrev ReadsText : (s c t : List ℕ) → ℕ → EventString → ℕ → (c' t' x : List ℕ) → Type 0
-ReadsText s c t at v next c' t' x = FieldAnswers s c t (Got v next) c' t' x (string_seen (literal_at link c15 s (table_of 6) at (vocabulary (unlisted c) t)))
+ReadsText s c t at v next c' t' x = FieldAnswers s c t (got v next) c' t' x (string_seen (literal_at link c15 s (table_of 6) at (vocabulary (unlisted c) t)))
 
 module _ (s c t : List ℕ) (at o : ℕ) (e : o ≡ get_or s at 0) where
-  read_chunk : (x : Named) → 0xA0 ≤ o → o < 0xB4 → ReadsShort s at (o - 0xA0) 0x10 x → x.row < get_or c 6 0 → (i : Octets) → Tidy s c t i
-      → ReadsText s c t at (event_string (string_at (table_of 6) t (768 * 6 + 3 * (x.row + 1 - 1)))) x.next c t i
+  read_chunk : (x : Read ℕ) → 0xA0 ≤ o → o < 0xB4 → ReadsShort s at (o - 0xA0) 0x10 x → x.value < get_or c 6 0 → (i : Octets) → Tidy s c t i
+      → ReadsText s c t at (event_string (string_at (table_of 6) t (768 * 6 + 3 * (x.value + 1 - 1)))) x.next c t i
   read_chunk x a l q h i tidy =
       let b : o - 0xA0 ≡ get_or s at 0 % 2 ^ (9 - 4) = omega arith in
-      chunk_held s c t i 6 at tidy (omega arith) o e (omega arith) (omega arith) 1 (omega arith) refl _ (sym (q 4 (omega arith) (omega arith) refl b)) _ _
-      (held_entry _ at _ (x.row + 1) (record { at = x.next }) refl (rw (count_at c tidy.ten 6) (omega arith)))
-      (said_entry t 6 _ (x.row + 1) x.next _ refl refl)
+      chunk_held s c t i 6 at tidy (omega arith) o e (omega arith) (omega arith) 1 (omega arith) refl _ (sym (q 4 (omega arith) (omega arith) refl b)) _
+      (said_entry t 6 _ at (record { value = x.value + 1; next = x.next }) _ (rw (count_at c tidy.ten 6) (omega arith)) refl)
 
   -- bit 3 is 0
   spelled_bit : 0x80 ≤ o → o < 0xA0 → o / 32 % 2 ≡ 1 → ⊥
   spelled_bit l h z = omega arith
 
-  -- b is its bits 5 and 6, a its add bit; its length is read, m, and its octets are text
-  read_spelled : {c' t' : Words} → 0x80 ≤ o → o < 0xA0 → {b : ℕ} → b ≡ o / 4 % 4 → b ≡ 0 → {m : Number} → m ≡ field_at (lengths 7) no_top 7 s at → {n : ℕ} {i : Cursor} → m ≡ Num n i → i.at + n ≤ length s
-      → true ≡ is_text (take (i.at + n - i.at) (drop i.at s)) → {a : ℕ} → a ≡ o / 16 % 2 → AddsChunk true c t i.at n (eqb a 1) c' t' → (x : Octets) → Tidy s c t x
-      → ReadsText s c t at (Stretch Utf8 i.at n) (i.at + n) c' t' x
-  read_spelled {c' = c'} {t' = t'} l h {b = b} eb zb {m = m} em {n = n} {i = i} q to text {a = a} ea adds x tidy =
-      let got = Got (Stretch Utf8 i.at n) (i.at + n) in
-      chunk_spelled s c t x 6 at tidy (omega arith) o e l (omega arith) (o / 32 % 2) refl (spelled_bit l h) a ea got c' t'
-      (spelled_utf8 s c t x 6 at tidy (omega arith) 7 (eqb a 1) (omega arith) o b e eb m got c' t' zb em
-      (formed_added s c t x 6 at tidy (omega arith) Utf8 (eqb a 1) m (length-read s at 7 m em) (Num n i) (stretch_text Utf8 s at m n i q true (i.at + n) to refl text refl) (omega arith) n i refl got c' t' (adds at)))
+  -- b is its bits 5 and 6, a its add bit; its length is read, r, and its octets are text
+  read_spelled : {c' t' : Words} → 0x80 ≤ o → o < 0xA0 → {b : ℕ} → b ≡ o / 4 % 4 → b ≡ 0 → (r : Read ℕ) → Ok r ≡ field_at (lengths 7) no_top 7 s at → r.next + r.value ≤ length s
+      → is_text (take (r.next + r.value - r.next) (drop r.next s)) ≡ true → {a : ℕ} → a ≡ o / 16 % 2 → AddsChunk (Some tt) c t r.next r.value (eqb a 1) c' t' → (x : Octets) → Tidy s c t x
+      → ReadsText s c t at (Stretch Utf8 r.next r.value) (r.next + r.value) c' t' x
+  read_spelled {c' = c'} {t' = t'} l h {b = b} eb zb r em to text {a = a} ea adds x tidy =
+      let z : r.next + r.value - r.next ≡ r.value = omega arith in
+      let text' : is_text (octets_of s (stretch Utf8 r.next r.value)) ≡ true = rw (octets_stretch s Utf8 r.next r.value) (rw z at text) in
+      let read = got (Stretch Utf8 r.next r.value) (r.next + r.value) in
+      chunk_spelled s c t x 6 at tidy (omega arith) o e l (omega arith) (o / 32 % 2) refl (spelled_bit l h) a ea read c' t'
+      (spelled_utf8 s c t x 6 at tidy (omega arith) 7 (eqb a 1) (omega arith) o b e eb (Ok r) read c' t' zb em
+      (formed_added s c t x 6 at tidy (omega arith) Utf8 (eqb a 1) r (length-read s at 7 r em) (omega arith) (judged_text Utf8 s at r to text') read c' t' (adds at)))
 
--- ---- each item as a step; where it is not taken, nothing has changed
-module _ {s : Octets} {t c r : Words} {y : Lane} (w : Stands s c t y) where
-  pub takes_none : Skims s (y.n + 1) y t c r y t c r
-  takes_none =
+-- ---- each item as a step
+module _ {s : Octets} {t c r : Words} {y : Lane} (w : Stands s c t y) {r' : Words} (same : length r' ≡ length r) where
+  pub takes_start : (o : ℕ) → o ≡ get_or s y.at 0 → (x : Read ℕ) → o < 0x28 → ReadsShort s y.at o 0x20 x → x.value < get_or c 8 0 → y.level < 32
+      → r' ≡ kept r y.n y.at (named_record Start (name_strings_at t 8 (x.value + 1)) Absent)
+      → Takes s (y.n + 1) y t c r (Some (record { at = x.next; level = y.level + 1; n = y.n + 1 })) t c r'
+  unfolding layout_of
+  takes_start o e x l q h d k =
       let m = w.more in
+      let inside = w.inside in
       let z = w.tidied.tidy.size in
-      record { onward = onward-same (omega arith) w.tidied; inside = w.inside; near = omega arith }
-
-  module _ {r' : Words} (same : length r' ≡ length r) where
-    pub takes_start : (o : ℕ) → o ≡ get_or s y.at 0 → (x : Named) → o < 0x28 → ReadsShort s y.at o 0x20 x → x.row < get_or c 8 0 → y.level < 32
-        → r' ≡ kept r y.n y.at (named_record Start (name_strings_at t 8 (x.row + 1)) Absent) → Skims s (y.n + 1) y t c r (record { at = x.next; level = y.level + 1; n = y.n + 1 }) t c r'
-    unfolding layout_of
-    takes_start o e x l q h d k =
-        let m = w.more in
-        let inside = w.inside in
-        let z = w.tidied.tidy.size in
-        let b : o ≡ get_or s y.at 0 % 2 ^ (9 - 3) = omega arith in
-        let near = (read-start s c t y.at o x b q h w.tidied.index w.tidied.tidy).1.0.within in
+      let b : o ≡ get_or s y.at 0 % 2 ^ (9 - 3) = omega arith in
+      let near = (read-start s c t y.at o x b q h w.tidied.index w.tidied.tidy).1.0.within in (
         record {
           onward = onward_one w.tidied same λ i good.
               let v = (stand_of (in_lane y) (lent t c i r)).state in
               let read = read-start s c t y.at o x b q h i good.tidy in
-              start_met y.at false _ _ read.0 read.1 (start-opened (in_lane y) y.at false t r y.n refl d refl k)
+              start_met y.at false _ (record { value = x.value + 1; next = x.next }) read.0 read.1 (start-opened (in_lane y) y.at false t r y.n d refl k)
               (step_here s (in_lane y) (lent t c i r) y.at refl refl (omega arith) (omega arith)
               ∙ child_element s y.at v (omega arith) 0 o (omega arith) (omega arith) (omega arith) (omega arith)
               ∙ element_numbered s y.at o false v (padding_none o (omega arith) (λ a. omega arith) (λ a. omega arith)) (rw (lt-ltb 0 y.level (omega arith)) refl) (omega arith));
           inside = omega arith;
           near = omega arith;
-        }
+        },
+        omega arith,
+      )
 
-    -- a chunk whose string is read
-    takes_text : {t' c' : Words} {v : EventString} {next : ℕ} {f : Event} → 0x80 ≤ get_or s y.at 0 → get_or s y.at 0 < 0xC0 → ((x : Octets) → Tidy s c t x → ReadsText s c t y.at v next c' t' x)
-        → r' ≡ kept r y.n y.at f → f ≡ chunk_record v → Skims s (y.n + 1) y t c r (record { at = next; level = y.level; n = y.n + 1 }) t' c' r'
-    unfolding table_of
-    takes_text l h read k q =
-        let m = w.more in
-        let inside = w.inside in
-        let z = w.tidied.tidy.size in
-        let left = (read w.tidied.index w.tidied.tidy).1 in
-        let within = left.within in
+  -- a chunk whose string is read
+  takes_text : {t' c' : Words} {v : EventString} {next : ℕ} {f : Event} → 0x80 ≤ get_or s y.at 0 → get_or s y.at 0 < 0xC0 → ((x : Octets) → Tidy s c t x → ReadsText s c t y.at v next c' t' x)
+      → r' ≡ kept r y.n y.at f → f ≡ chunk_record v → Takes s (y.n + 1) y t c r (Some (record { at = next; level = y.level; n = y.n + 1 })) t' c' r'
+  unfolding table_of
+  takes_text {v = v} {next} l h read k q =
+      let m = w.more in
+      let inside = w.inside in
+      let z = w.tidied.tidy.size in
+      let left = (read w.tidied.index w.tidied.tidy).1 in
+      let within = left.within in (
         record {
           onward = onward_one (record { index = w.tidied.index; tidy = left.tidy }) same λ x good.
-              met_by (chunk_more y.at refl good k q (read x good.tidy))
+              met_by (chunk_more y.at (record { value = v; next = next }) good k q (read x good.tidy))
               (step_here s (in_lane y) (lent t c x r) y.at refl refl (omega arith) (omega arith)
               ∙ child_text s y.at (stand_of (in_lane y) (lent t c x r)).state (omega arith) (omega arith) (omega arith) (λ a. omega arith));
           inside = w.inside;
           near = omega arith;
-        }
+        },
+        omega arith,
+      )
 
-    pub takes_chunk : (o : ℕ) → o ≡ get_or s y.at 0 → (x : Named) → 0xA0 ≤ o → o < 0xB4 → ReadsShort s y.at (o - 0xA0) 0x10 x → x.row < get_or c 6 0 → r' ≡ kept r y.n y.at (chunk_record (event_string_at t 6 (x.row + 1)))
-        → Skims s (y.n + 1) y t c r (record { at = x.next; level = y.level; n = y.n + 1 }) t c r'
-    takes_chunk o e x a l q h k =
-        takes_text (omega arith) (omega arith) (read_chunk s c t y.at o e x a l q h) k (ap chunk_record (sym (string_there t 6 (x.row + 1) _ (omega arith) refl)))
+  pub takes_chunk : (o : ℕ) → o ≡ get_or s y.at 0 → (x : Read ℕ) → 0xA0 ≤ o → o < 0xB4 → ReadsShort s y.at (o - 0xA0) 0x10 x → x.value < get_or c 6 0 → r' ≡ kept r y.n y.at (chunk_record (event_string_at t 6 (x.value + 1)))
+      → Takes s (y.n + 1) y t c r (Some (record { at = x.next; level = y.level; n = y.n + 1 })) t c r'
+  takes_chunk o e x a l q h k =
+      takes_text (omega arith) (omega arith) (read_chunk s c t y.at o e x a l q h) k (ap chunk_record (sym (string_there t 6 (x.value + 1) _ (omega arith) refl)))
 
-    pub takes_spelled : {t' c' : Words} (o : ℕ) → o ≡ get_or s y.at 0 → 0x80 ≤ o → o < 0xA0 → {b : ℕ} → b ≡ o / 4 % 4 → b ≡ 0 → {m : Number} → m ≡ field_at (lengths 7) no_top 7 s y.at
-        → {n : ℕ} {i : Cursor} → m ≡ Num n i → i.at + n ≤ length s → true ≡ is_text (take (i.at + n - i.at) (drop i.at s)) → {a : ℕ} → a ≡ o / 16 % 2 → AddsChunk true c t i.at n (eqb a 1) c' t'
-        → {f : Event} → r' ≡ kept r y.n y.at f → f ≡ chunk_record (Stretch Utf8 i.at n) → Skims s (y.n + 1) y t c r (record { at = i.at + n; level = y.level; n = y.n + 1 }) t' c' r'
-    takes_spelled o e l h eb zb em q to text ea adds k z = takes_text (omega arith) (omega arith) (read_spelled s c t y.at o e l h eb zb em q to text ea adds) k z
+  pub takes_spelled : {t' c' : Words} (o : ℕ) → o ≡ get_or s y.at 0 → 0x80 ≤ o → o < 0xA0 → {b : ℕ} → b ≡ o / 4 % 4 → b ≡ 0 → (i : Read ℕ) → Ok i ≡ field_at (lengths 7) no_top 7 s y.at
+      → i.next + i.value ≤ length s → is_text (take (i.next + i.value - i.next) (drop i.next s)) ≡ true → {a : ℕ} → a ≡ o / 16 % 2 → AddsChunk (Some tt) c t i.next i.value (eqb a 1) c' t'
+      → {f : Event} → r' ≡ kept r y.n y.at f → f ≡ chunk_record (Stretch Utf8 i.next i.value) → Takes s (y.n + 1) y t c r (Some (record { at = i.next + i.value; level = y.level; n = y.n + 1 })) t' c' r'
+  takes_spelled o e l h eb zb i em to text ea adds k z = takes_text (omega arith) (omega arith) (read_spelled s c t y.at o e l h eb zb i em to text ea adds) k z
 
-    pub takes_end : {e : Event} → get_or s y.at 0 ≡ 0xF0 → 2 ≤ y.level → get_or s (y.at + 1) 0 < 0xF0 → r' ≡ kept r y.n y.at e → e ≡ end_record
-        → Skims s (y.n + 1) y t c r (record { at = y.at + 1; level = y.level - 1; n = y.n + 1 }) t c r'
-    takes_end o l b k q =
-        let m = w.more in
-        let z = w.tidied.tidy.size in
-        let e : 2 * y.at / 2 ≡ y.at = omega arith in
-        let h : 15 ≡ half_at s (2 * y.at) = half_high s (2 * y.at) (omega arith) 15 (rw e (omega arith)) (omega arith) (rw (e, o) refl) in
-        let behind : State = after_end (in_lane y) (y.level - 1) in
-        let next : State = record { at = 2 * (y.at + 1); level = y.level - 1; root = 1; mode = 0 } in
+  pub takes_end : {e : Event} → get_or s y.at 0 ≡ 0xF0 → 2 ≤ y.level → get_or s (y.at + 1) 0 < 0xF0 → r' ≡ kept r y.n y.at e → e ≡ end_record
+      → Takes s (y.n + 1) y t c r (Some (record { at = y.at + 1; level = y.level - 1; n = y.n + 1 })) t c r'
+  takes_end o l b k q =
+      let m = w.more in
+      let z = w.tidied.tidy.size in
+      let e : 2 * y.at / 2 ≡ y.at = omega arith in
+      let h : 15 ≡ half_at s (2 * y.at) = half_high s (2 * y.at) (omega arith) 15 (rw e (omega arith)) (omega arith) (rw (e, o) refl) in
+      let behind : State = after_end (in_lane y) (y.level - 1) in
+      let next : State = record { at = 2 * (y.at + 1); level = y.level - 1; root = 1; mode = 0 } in (
         record {
           onward = onward_over
               (onward_one w.tidied same λ i good.
@@ -311,29 +311,52 @@ module _ {s : Octets} {t c r : Words} {y : Lane} (w : Stands s c t y) where
               );
           inside = omega arith;
           near = omega arith;
-        }
+        },
+        omega arith,
+      )
 
 -- ---- one or two octets that are plain
-module _ (s : Octets) (from to : ℕ) (l : from < to) (h : to ≤ length s) (k : to ≤ from + 2) where
-  plain_at : (i j : ℕ) → j ≡ i → (leb 0x20 (get_or s i 0) && leb (get_or s i 0) 0x7F) ≡ true → (0x20 ≤ get_or s j 0) × (get_or s j 0 ≤ 0x7F)
-  plain_at i j e t =
-      let p = both_true (leb 0x20 (get_or s i 0)) (leb (get_or s i 0) 0x7F) t in
-      rw e (leb-true 0x20 (get_or s i 0) p.0, leb-true (get_or s i 0) 0x7F p.1)
+abbrev plain : ℕ → Bool
+plain x = leb 0x20 x && leb x 0x7F
 
-  pub few_text : (leb 0x20 (get_or s from 0) && leb (get_or s from 0) 0x7F) ≡ true → (leb 0x20 (get_or s (to - 1) 0) && leb (get_or s (to - 1) 0) 0x7F) ≡ true
-      → true ≡ is_text (take (to - from) (drop from s))
-  few_text a b = plain_text s from to h λ j p q. elim (ℕ_discrete j from) [ yes e ↦ plain_at from j e a | no n ↦ plain_at (to - 1) j (omega arith) b ]
+plain_is : (x : ℕ) → plain x ≡ true → (0x20 ≤ x) × (x ≤ 0x7F)
+plain_is x t = let p = both_true (leb 0x20 x) (leb x 0x7F) t in (leb-true 0x20 x p.0, leb-true x 0x7F p.1)
 
--- no room for a row more
-pub takes_full : {s : Octets} {t c t' c' r : Words} {y : Lane} → Stands s c t y → (c' ≡ c) × (t' ≡ t) → Skims s (y.n + 1) y t c r y t' c' r
-takes_full w q = rw (q.0, q.1) (takes_none w)
+module _ (s : List ℕ) where
+  plain_all : {n : ℕ} → length s ≡ n → ((j : ℕ) → j < n → plain (get_or s j 0) ≡ true) → true ≡ is_text s
+  plain_all {n} e f =
+      let z : take (n - 0) (drop 0 s) ≡ s = take_all (n - 0) s (omega arith) in
+      rw z at (plain_text s 0 n (omega arith) (λ j p q. plain_is (get_or s j 0) (f j q)))
 
--- it is left to the step
-pub takes_left : {s : Octets} {t c r r' : Words} {y : Lane} → Stands s c t y → r' ≡ r → Skims s (y.n + 1) y t c r y t c r'
-takes_left w q = rw q (takes_none w)
+  pub one_text : length s ≡ 1 → plain (get_or s 0 0) ≡ true → true ≡ is_text s
+  one_text l t = plain_all l λ j p. let z : j ≡ 0 = omega arith in rw z t
 
-pub skims_then : {s : Octets} {full : ℕ} {x y z : Lane} {t c r t₁ c₁ r₁ t₂ c₂ r₂ : Words} → Skims s full x t c r y t₁ c₁ r₁ → y.n < full → Skims s (y.n + 1) y t₁ c₁ r₁ z t₂ c₂ r₂ → Skims s full x t c r z t₂ c₂ r₂
-skims_then a h b = record { onward = onward_then a.onward h b.onward; inside = b.inside; near = b.near }
+  pub two_text : length s ≡ 2 → plain (get_or s 0 0) ≡ true → plain (get_or s 1 0) ≡ true → true ≡ is_text s
+  two_text l t u = plain_all l λ j p. elim (ℕ_discrete j 0) [ yes z ↦ rw z t | no n ↦ let z : j ≡ 1 = omega arith in rw z u ]
+
+-- a length that was read
+pub length_there : (s : List ℕ) (k : ℕ) {r : Answered (Read ℕ) Fault} {x : Read ℕ} → r ≡ field_at (lengths 7) no_top 7 s k → Some x ≡ result_ok r
+    → (Ok x ≡ field_at (lengths 7) no_top 7 s k) × (1 ≤ x.value) × (x.next ≤ length s)
+length_there s k {r} {x} e q = let i = of r q ∙ e in let l = length-read s k 7 x i in (i, l.0, l.1)
+  where
+    of : (r : Answered (Read ℕ) Fault) → Some x ≡ result_ok r → Ok x ≡ r
+    of (Ok y) q = cc
+    of (Err f) q = cc
+
+-- what is taken below `full` events
+pub takes_below : (s : Octets) (full : ℕ) (y : Lane) (t c r : Words) (o : Option Lane) (t' c' r' : Words) → y.n < full → Takes s (y.n + 1) y t c r o t' c' r' → Takes s full y t c r o t' c' r'
+takes_below s full y t c r None t' c' r' h k = k
+takes_below s full y t c r (Some z) t' c' r' h k =
+    let g = k.0.onward in
+    let most = g.most in
+    (record { onward = record { less = g.less; most = omega arith; tidied = g.tidied; goes = λ f l u. g.goes (omega arith) (omega arith) u }; inside = k.0.inside; near = k.0.near }, k.1)
+
+module _ {s : Octets} {full : ℕ} {x y : Lane} {t c r t₁ c₁ r₁ t₂ c₂ r₂ : Words} (a : Skims s full x t c r y t₁ c₁ r₁) where
+  pub skims_then : {z : Lane} → Takes s full y t₁ c₁ r₁ (Some z) t₂ c₂ r₂ → Skims s full x t c r z t₂ c₂ r₂
+  skims_then b = record { onward = onward_then a.onward b.0.onward; inside = b.0.inside; near = b.0.near }
+
+  pub skims_end : Takes s full y t₁ c₁ r₁ None t₂ c₂ r₂ → Skims s full x t c r y t₂ c₂ r₂
+  skims_end q = rw (q.0, q.1, q.2) a
 
 -- ---- the records of elements and chunks by number
 module _ (t : Words) (i : ℕ) (x : Row) (e : x ≡ row_at t (768 * 8 + 3 * i)) where
@@ -378,24 +401,6 @@ abbrev state : (at level root mode : ℕ) → State
 state i j p q = record { at = i; level = j; root = p; mode = q }
 
 module _ (st : State) where
-  pub enters_mode : (st.mode ≡ 0 → ⊥) → false ≡ enters_lane st
-  unfolding enters_lane
-  enters_mode h = rw (ne_eqb _ _ h)
-
-  module _ (m : st.mode ≡ 0) where
-    pub enters_root : (st.root ≡ 1 → ⊥) → false ≡ enters_lane st
-    unfolding enters_lane
-    enters_root h = rw (eq-eqb _ _ m, ne_eqb _ _ h)
-
-    module _ (r : st.root ≡ 1) where
-      pub enters_level : st.level ≡ 0 → false ≡ enters_lane st
-      unfolding enters_lane
-      enters_level h = rw (eq-eqb _ _ m, eq-eqb _ _ r, h)
-
-      pub enters_half : (st.level ≡ 0 → ⊥) → eqb (st.at % 2) 0 ≡ enters_lane st
-      unfolding enters_lane
-      enters_half h = let l : 0 < st.level = omega arith in rw (eq-eqb _ _ m, eq-eqb _ _ r, lt-ltb _ _ l)
-
   pub enters_is : true ≡ enters_lane st → (1 ≤ st.level) × (st ≡ in_lane (record { at = st.at / 2; level = st.level; n = 0 }))
   unfolding enters_lane
   enters_is e =

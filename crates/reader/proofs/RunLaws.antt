@@ -6,10 +6,16 @@ use mathlib.Core.List.{List, [], ◌∷◌, ◌++◌}
 use Prim.Native.Nat.{ℕ, zero, suc, ◌+◌, ◌-◌, ◌*◌, ◌/◌, ◌≤◌, ◌<◌}
 use native.Mathlib.Omega.{arith}
 use native.Mathlib.Numerals.{add-one}
+use native.Mathlib.Decide.{ℕ_discrete}
 use borrow.Author.Tests.{lt-ltb, le-ltb, le-leb, lt-leb, eq-eqb, ne_eqb, leb-true}
 use lib.Dec.{eqb, leb, lit<}
 use lib.ListN.{length, get_or, take, drop, set, replicate, get_or-replicate, length-replicate}
 use lib.Seq.{drop-cons, sets}
+use Rattle.std.specs.Prelude.{Result as Answered, Ok, Err}
+use Rattle.std.specs.List.{starts_with}
+use Rattle.std.specs.Cmp.Lexicographic.{pointwise}
+use Rattle.format.specs.declared.refusals.Fault.{Fault}
+use Rattle.format.specs.declared.refusals.Refusal.TheVariants.{Truncated, Header, OptionalPart, Padding, Room}
 use Rattle.format.specs.Tables.{NameTable, ELEMENT_NAME, ATTRIBUTE_NAME, names, starting, same, link}
 use Rattle.format.specs.Document.{beginning}
 use Rattle.tables.specs.Located.{start}
@@ -26,105 +32,79 @@ use Rattle.events.specs.Records.{record_of}
 use Rattle.events.specs.Words.{record_words}
 use Rattle.events.specs.Kept.{kept}
 use Rattle.read_items.specs.declared.Step.{Step}
-use Rattle.read_items.specs.declared.Step.TheVariants.{More, Quiet, Done, Stop}
+use Rattle.read_items.specs.declared.Step.TheVariants.{Event, Quiet, Done}
 use Rattle.read_items.specs.Items as I
 use Rattle.read_items.specs.Items.{Stand}
 use Rattle.read_items.specs.Steps.{step}
 use Rattle.read_names.specs.Promises.{Ranged, searched, Tidy}
-use Rattle.read_head.specs.declared.Passed.{Passed}
-use Rattle.read_head.specs.declared.Passed.TheVariants.{Behind, Refused as NoBody}
 use Rattle.read_head.specs.Head.{head_at}
 use Rattle.read_head.specs.Promises.{PassedLeft, Passes}
 use Rattle.read_items.specs.Promises.{Lent, lent, stand_of, SeenStep, more, quiet, done, stop, seen_step, step_seen, kept_by, Good, Met}
-use Rattle.reader.specs.declared.run.Ended.{Ended}
-use Rattle.reader.specs.declared.run.Ended.TheVariants.{Accepted, Refused}
-use Rattle.reader.specs.declared.run.Front.{Front}
-use Rattle.reader.specs.declared.run.Opening.{Opening}
-use Rattle.reader.specs.declared.run.Opening.TheVariants.{Onward, Halt}
-use Rattle.reader.specs.Reading as R
+use Rattle.reader.specs.declared.run.Front.TheVariants.{Head, Body}
 use Rattle.reader.specs.Reading.{onward, halt, behind_head, sized, opening, EventRead, record_read, Result, accepted, refusal, plus, turn, run, origin, reading, number_of, check_of}
 use Rattle.reader.specs.LaneContracts.{whole, Underway}
-use Rattle.reader.specs.RunContracts.{Opened, StartsIn, Starts, Ending, ended, faulty, ending_of, seen_ending, event_words, kept_from, Small, answer_number, Ran}
+use Rattle.reader.specs.RunContracts.{Opened, StartsIn, Starts, Ending, ended, faulty, ending_of, seen_ending, event_words, kept_from, fault_number, Ran}
 use Rattle.read_items.proofs.Places.{Placed, step_placed}
 
--- ---- the identification
-abbrev octets : List ℕ
-octets = 0xE0 ∷ 0x00 ∷ 0x00 ∷ 0x01 ∷ 0x00 ∷ []
+-- ---- the header
+eqb-sym : (a b : ℕ) → eqb a b ≡ eqb b a
+eqb-sym a b = elim (ℕ_discrete a b) [ yes e ↦ eq-eqb a b e ∙ sym (eq-eqb b a (sym e)) | no n ↦ ne_eqb a b n ∙ sym (ne_eqb b a (λ e. n (sym e))) ]
 
--- from octet i on
-abbrev pub headed_from : List ℕ → ℕ → Bool
-headed_from s i = same (take (4 - i) (drop i s)) (take (4 - i) (drop i octets))
-
-pub headed-start : (s : List ℕ) → headed_from s 0 ≡ same (take 4 s) link.identification
-unfolding link
-headed-start s = refl
-
-module _ (s : List ℕ) (i : ℕ) (w : Bool) (h : i < 4) (l : i < length s) (e : headed_from s i ≡ w) where
-  split : headed_from s i ≡ (eqb (get_or s i 0) (get_or octets i 0) && headed_from s (suc i))
-  unfolding same
-  split = let z : 4 - i ≡ suc (4 - suc i) = omega arith in rw (z, drop-cons s i 0 l, drop-cons octets i 0 (omega arith))
-
-  pub headed_differs : (get_or s i 0 ≡ get_or octets i 0 → ⊥) → false ≡ w
-  headed_differs n = rw (ne_eqb _ _ n) at (sym split ∙ e)
-
-  pub headed_next : get_or s i 0 ≡ get_or octets i 0 → headed_from s (i + 1) ≡ w
-  headed_next q = rw (add-one i) (rw (eq-eqb _ _ q) at (sym split ∙ e))
-
-pub headed_end : (s : List ℕ) (i : ℕ) (w : Bool) → i ≤ 4 → 4 ≤ i → headed_from s i ≡ w → true ≡ w
+same_pointwise : (x y : List ℕ) → pointwise eqb y x ≡ same x y
 unfolding same
-headed_end s i w a b e = let z : i ≡ 4 = omega arith in rw z at e
+same_pointwise [] [] = refl
+same_pointwise [] (b ∷ y) = refl
+same_pointwise (a ∷ x) [] = refl
+same_pointwise (a ∷ x) (b ∷ y) = rw (eqb-sym b a, same_pointwise x y)
 
--- ---- the opening
+abbrev identified : List ℕ → Bool
+identified s = starts_with eqb s (0xE0 ∷ 0x00 ∷ 0x00 ∷ 0x01 ∷ [])
+
 module _ (s : List ℕ) where
-  pub size_none : length s ≡ 0 → false ≡ sized link s
-  unfolding sized
-  size_none h = let l : length s < 1 = omega arith in rw (lt-leb _ _ l)
+  identified_is : identified s ≡ same (take 4 s) link.identification
+  unfolding link
+  identified_is = same_pointwise (take 4 s) (0xE0 ∷ 0x00 ∷ 0x00 ∷ 0x01 ∷ [])
 
-  pub size_some : (length s ≡ 0 → ⊥) → leb (length s) 16384 ≡ sized link s
+  size_most : true ≡ sized link s → length s ≤ 16384
   unfolding sized link
-  size_some h = let l : 1 ≤ length s = omega arith in rw (le-leb _ _ l)
+  size_most e = leb-true (length s) 16384 (both_true (leb 1 (length s)) (leb (length s) 16384) (sym e)).1
 
-  pub size-most : true ≡ sized link s → length s ≤ 16384
-  unfolding sized link
-  size-most e = leb-true (length s) 16384 (both_true (leb 1 (length s)) (leb (length s) 16384) (sym e)).1
+  -- the size is is_right, and the identification is there, or other octets
+  module _ {b w : Bool} (size : b ≡ sized link s) (yes : b ≡ true) (l : 4 ≤ length s) (starts : w ≡ identified s) where
+    is_right : true ≡ sized link s
+    is_right = sym yes ∙ size
 
-  pub open_size : false ≡ sized link s → halt 1 0 ≡ opening link s
-  unfolding opening link
-  open_size e = rw (← e)
-
-  module _ (size : true ≡ sized link s) where
-    pub open_short : length s < 4 → halt 2 0 ≡ opening link s
+    pub open_other : w ≡ false → {f : Fault} → f ≡ record { refusal = Header; at = 0 } → Opened s (Err f) (opening link s)
     unfolding opening link
-    open_short h = rw (← size, lt-leb _ _ h)
+    open_other h e = rw e (record { is = rw (← is_right, le-leb _ _ l, ← identified_is, ← starts, h); within = omega arith })
 
-    module _ (l : 4 ≤ length s) where
-      pub open_other : false ≡ same (take 4 s) link.identification → halt 3 0 ≡ opening link s
+    module _ (h : w ≡ true) where
+      first : true ≡ same (take 4 s) link.identification
+      first = sym h ∙ starts ∙ identified_is
+
+      pub open_short : length s ≡ 4 → {f : Fault} → f ≡ record { refusal = Truncated; at = 4 } → Opened s (Err f) (opening link s)
       unfolding opening link
-      open_other e = rw (← size, le-leb _ _ l, ← e)
+      open_short k e = let n : length s < 5 = omega arith in rw e (record { is = rw (← is_right, le-leb _ _ l, ← first, lt-leb _ _ n); within = omega arith })
 
-      module _ (e : true ≡ same (take 4 s) link.identification) where
-        pub open_four : length s < 5 → halt 2 4 ≡ opening link s
+      module _ (k : length s ≡ 4 → ⊥) where
+        long : 5 ≤ length s
+        long = omega arith
+
+        pub open_body : get_or s 4 0 ≡ 0 → Opened s (Ok (Body 5)) (opening link s)
         unfolding opening link
-        open_four h = rw (← size, le-leb _ _ l, ← e, lt-leb _ _ h)
+        open_body z = record { is = rw (← is_right, le-leb _ _ l, ← first, le-leb _ _ long, z); within = (long, size_most is_right) }
 
-        module _ (h : 5 ≤ length s) where
-          pub open_padding : 0x80 ≤ get_or s 4 0 → halt 6 4 ≡ opening link s
-          unfolding opening link
-          open_padding b = rw (← size, le-leb _ _ l, ← e, le-leb _ _ h, le-ltb _ _ b)
+        pub open_head : get_or s 4 0 ≡ 0x20 → Opened s (Ok (Head 5)) (opening link s)
+        unfolding opening link
+        open_head z = record { is = rw (← is_right, le-leb _ _ l, ← first, le-leb _ _ long, z); within = (long, size_most is_right) }
 
-          module _ (b : get_or s 4 0 < 0x80) where
-            pub open_onward : get_or s 4 0 ≡ 0 → onward 5 (start link) ≡ opening link s
-            unfolding opening link
-            open_onward z = rw (← size, le-leb _ _ l, ← e, le-leb _ _ h, z)
+        pub open_padding : 0x80 ≤ get_or s 4 0 → {f : Fault} → f ≡ record { refusal = Padding; at = 4 } → Opened s (Err f) (opening link s)
+        unfolding opening link
+        open_padding b e = rw e (record { is = rw (← is_right, le-leb _ _ l, ← first, le-leb _ _ long, le-ltb _ _ b); within = omega arith })
 
-            module _ (n : get_or s 4 0 ≡ 0 → ⊥) where
-              pub open_optional : (get_or s 4 0 ≡ 0x20 → ⊥) → halt 4 4 ≡ opening link s
-              unfolding opening link
-              open_optional m = rw (← size, le-leb _ _ l, ← e, le-leb _ _ h, lt-ltb _ _ b, ne_eqb _ _ n, ne_eqb _ _ m)
-
-              pub open_headed : get_or s 4 0 ≡ 0x20 → behind_head (head_at link s 5 (start link)) ≡ opening link s
-              unfolding opening link
-              open_headed z = rw (← size, le-leb _ _ l, ← e, le-leb _ _ h, z)
+        pub open_optional : (get_or s 4 0 ≡ 0 → ⊥) → (get_or s 4 0 ≡ 0x20 → ⊥) → get_or s 4 0 < 0x80 → {f : Fault} → f ≡ record { refusal = OptionalPart; at = 4 } → Opened s (Err f) (opening link s)
+        unfolding opening link
+        open_optional n m b e = rw e (record { is = rw (← is_right, le-leb _ _ l, ← first, le-leb _ _ long, lt-ltb _ _ b, ne_eqb _ _ n, ne_eqb _ _ m); within = omega arith })
 
 -- ---- what a turn comes to, by what is seen of its step and what it kept
 module _ (go : ℕ → Stand → Result) (m : Stand) (n : ℕ) where
@@ -178,16 +158,13 @@ abbrev pub PlacedSeen : List ℕ → SeenStep → Type 0
 PlacedSeen s (more p k) = p ≤ length s
 PlacedSeen s (quiet k) = Unit {0}
 PlacedSeen s done = Unit {0}
-PlacedSeen s (stop j p) = (j ≤ 15) × (p ≤ length s)
+PlacedSeen s (stop j p) = p ≤ length s
 
 pub placed_seen : (s : List ℕ) (x : I.Step) → Placed s x → PlacedSeen s (step_seen x)
 placed_seen s (I.more p i k) h = h
 placed_seen s (I.quiet k) h = tt
 placed_seen s I.done h = tt
-placed_seen s (I.stop j p) h = h
-
-pub front_within : {s : List ℕ} {o : Opening} {x : R.Opening} {f : Front} → Opened s o x → o ≡ Onward f → (f.at ≤ length s) × (length s ≤ 16384)
-front_within e q = let g = rw q at e in g.within
+placed_seen s (I.stop j p) h = h.1
 
 -- ---- before the head: tables of zeros, the counts of the start, an index of zeros
 module _ (s : List ℕ) (t c x : List ℕ) (zeros : t ≡ replicate table_words 0) (counts : c ≡ listed (counts_of (start link))) (clear : x ≡ replicate slots 0) where
@@ -214,23 +191,19 @@ module _ (s : List ℕ) (t c x : List ℕ) (zeros : t ≡ replicate table_words 
         indexed = rw zeros (indexed_start searched s (replicate table_words 0) x (get_or-replicate {A = ℕ} table_words 1 0 0 (lit< tt)) (get_or-replicate {A = ℕ} table_words 769 0 0 (lit< tt)) clear);
       })
 
-  -- o is what the header says
-  module _ {o : Opening} (e : Opened s o (opening link s)) where
-    pub starts_halt : {k p : ℕ} → o ≡ Halt k p → Starts s (NoBody k p) c t x
-    starts_halt q = let g = rw q at e in record { is = g.is; within = g.within }
+  -- what the header says
+  pub starts_fault : {f g : Fault} → Opened s (Err f) (opening link s) → g ≡ f → Starts s (Err g) c t x
+  starts_fault o e = rw e (record { is = o.is; within = o.within })
 
-    module _ {f : Front} (q : o ≡ Onward f) where
-      pub starts_body : f.head ≡ false → Starts s (Behind f.at) c t x
-      starts_body n = let g = rw q at e in record { is = rw tables_start (rw n at g.is); within = (g.within.0, tidy_start g.within.1) }
+  pub starts_body : {at : ℕ} → Opened s (Ok (Body at)) (opening link s) → Starts s (Ok at) c t x
+  starts_body o = record { is = rw tables_start o.is; within = (o.within.0, tidy_start o.within.1) }
 
-      pub starts_head : {r : Passed} {d v y : List ℕ} → f.head ≡ true → Passes s c t r d v y (head_at link s f.at) → Starts s r d v y
-      starts_head {r = r} {d} {v} {y} h p =
-          let g = rw q at e in
-          record { is = ap behind_head (p.0 ∙ ap (head_at link s f.at) tables_start) ∙ rw h at g.is; within = by_answer r g.within.1 p.1 }
-        where
-          by_answer : (r : Passed) → length s ≤ 16384 → PassedLeft s c t r d v y → StartsIn s r d v y
-          by_answer (Behind body) h l = (l.within, l.tidy)
-          by_answer (NoBody k p) h l = omega arith
+  pub starts_head : {at : ℕ} → Opened s (Ok (Head at)) (opening link s) → {r : Answered ℕ Fault} {d v y : List ℕ} → Passes s c t r d v y (head_at link s at) → Starts s r d v y
+  starts_head {at} o {r = r} {d} {v} {y} p = record { is = ap behind_head (p.0 ∙ ap (head_at link s at) tables_start) ∙ o.is; within = by_answer r p.1 }
+    where
+      by_answer : (r : Answered ℕ Fault) → PassedLeft s c t r d v y → StartsIn s r d v y
+      by_answer (Ok body) l = (l.within, l.tidy)
+      by_answer (Err f) l = let z = o.within.1 in let k = l.1 in omega arith
 
 -- ---- before the first item
 pub stand_start : (body : ℕ) (a : Lent) → stand_of (fresh body) a ≡ origin body (vocabulary (unlisted a.counts) a.tables)
@@ -260,15 +233,15 @@ unfolding run
 run_one s left room m h = let z : left ≡ suc (left - 1) = omega arith in ap (λ (k : ℕ). run link s k room m) z
 
 module _ {s v : List ℕ} {room : ℕ} {from : Stand} {left n : ℕ} {st : State} {a : Lent} (u : Underway s v room from left n st a) where
-  pub ran_spent : left ≤ 0 → Ran room v (Refused 2 (st.at / 2)) a.counts a.tables a.records (whole s room from)
+  pub ran_spent : left ≤ 0 → {f : Fault} → f ≡ record { refusal = Truncated; at = st.at / 2 } → Ran room v (Err f) a.counts a.tables a.records (whole s room from)
   unfolding run
-  ran_spent h =
+  ran_spent h e =
       let z : left ≡ 0 = omega arith in
       let g = u.good in
-      record { is = rw z at u.ends; small = omega arith; settled = tt; keeps = λ _. tt }
+      rw e (record { is = rw z at u.ends; small = omega arith; settled = tt; keeps = λ _. tt })
 
   -- a step, and what is seen of its answer
-  module _ (h : 0 < left) {r : Step} {b : Lent} (p : Met s st n a r b (step link s)) where
+  module _ (h : 0 < left) {r : Answered Step Fault} {b : Lent} (p : Met s st n a r b (step link s)) where
     abbrev onward_from : ℕ → Stand → Result
     onward_from k m = run link s (left - 1) k m
 
@@ -287,7 +260,7 @@ module _ {s v : List ℕ} {room : ℕ} {from : Stand} {left n : ℕ} {st : State
     placed_here : PlacedSeen s (seen_step r b)
     placed_here = rw p.is (placed_seen s (step link s (stand_of st a)) (step_placed s link (stand_of st a) u.good.at))
 
-    module _ {st' : State} {k : ℕ} (q : r ≡ Quiet st' k) (same : length b.records ≡ length a.records) where
+    module _ {st' : State} (q : r ≡ Ok (Quiet st')) (same : length b.records ≡ length a.records) where
       pub underway_quiet : Underway s v room from (left - 1) n st' b
       underway_quiet =
           let f = u.fuel in
@@ -300,8 +273,8 @@ module _ {s v : List ℕ} {room : ℕ} {from : Stand} {left n : ℕ} {st : State
             same_length = same ∙ u.same_length;
           }
 
-    module _ {place : ℕ} {st' : State} (q : r ≡ More st' place) where
-      pub more-place : place ≤ 16384
+    module _ {place : ℕ} {st' : State} (q : r ≡ Ok (Event st' place)) where
+      more-place : place ≤ 16384
       more-place = let l : place ≤ length s = rw q at placed_here in let g = u.good.tidy.size in omega arith
 
       pub underway_more : (n ≡ room → ⊥) → length b.records ≡ length a.records → Underway s v room from (left - 1) (n + 1) st' b
@@ -318,13 +291,13 @@ module _ {s v : List ℕ} {room : ℕ} {from : Stand} {left n : ℕ} {st : State
             same_length = same ∙ u.same_length;
           }
 
-      pub ran_full : n ≡ room → Ran room v (Refused 14 place) b.counts b.tables b.records (whole s room from)
-      ran_full l =
+      pub ran_full : n ≡ room → {f : Fault} → f ≡ record { refusal = Room; at = place } → Ran room v (Err f) b.counts b.tables b.records (whole s room from)
+      ran_full l e =
           let z : room - n ≡ 0 = omega arith in
-          record { is = rw (q, z) at ends_here; small = (omega arith, more-place); settled = tt; keeps = λ _. tt }
+          rw e (record { is = rw (q, z) at ends_here; small = more-place; settled = tt; keeps = λ _. tt })
 
-    module _ {st' : State} {k : ℕ} (q : r ≡ Done st' k) where
-      pub ran_done : Ran room v (Accepted n) b.counts b.tables b.records (whole s room from)
+    module _ (q : r ≡ Ok Done) where
+      pub ran_done : Ran room v (Ok n) b.counts b.tables b.records (whole s room from)
       ran_done =
           let same : (b.counts ≡ a.counts) × (b.tables ≡ a.tables) = rw q at p.good in
           let g = u.good.tidy.size in
@@ -336,45 +309,36 @@ module _ {s v : List ℕ} {room : ℕ} {from : Stand} {left n : ℕ} {st : State
             keeps = λ k. rw q at (kept_here k);
           }
 
-    module _ {st' : State} {k : ℕ} (q : r ≡ Stop st' k) where
-      pub stop_place : (k ≤ 15) × (st'.at ≤ 16384)
-      stop_place = let l : (k ≤ 15) × (st'.at ≤ length s) = rw q at placed_here in let g = u.good.tidy.size in omega arith
+    module _ {f : Fault} (q : r ≡ Err f) where
+      stop_place : f.at ≤ 16384
+      stop_place = let l : f.at ≤ length s = rw q at placed_here in let g = u.good.tidy.size in omega arith
 
-      pub ran_stop : Ran room v (Refused k st'.at) b.counts b.tables b.records (whole s room from)
-      ran_stop = record { is = rw q at ends_here; small = stop_place; settled = tt; keeps = λ _. tt }
+      pub ran_stop : {g : Fault} → g ≡ f → Ran room v (Err g) b.counts b.tables b.records (whole s room from)
+      ran_stop e = rw e (record { is = rw q at ends_here; small = stop_place; settled = tt; keeps = λ _. tt })
 
 -- ---- a document
-module _ {s : List ℕ} {a : Passed} {c t x : List ℕ} (e : Starts s a c t x) where
-  pub halt_place : {k place : ℕ} → a ≡ NoBody k place → (k ≤ 15) × (place ≤ 16384)
-  halt_place q = let f = rw q at e in f.within
+module _ {s : List ℕ} {c t x : List ℕ} {v : List ℕ} {room : ℕ} {d w u : List ℕ} where
+  pub ran_fault : {f g : Fault} → Starts s (Err f) c t x → g ≡ f → Ran room v (Err g) d w u (reading link s room)
+  unfolding reading
+  ran_fault o e = rw (← o.is, e) (record { is = refl; small = o.within; settled = tt; keeps = λ _. tt })
 
-  pub body_start : {body : ℕ} → a ≡ Behind body → (body ≤ length s) × Tidy s c t x
-  body_start q = let f = rw q at e in f.within
-
-  module _ {v : List ℕ} {room : ℕ} {r : Ended} {d w u : List ℕ} where
-    pub ran_halt : {k place : ℕ} → a ≡ NoBody k place → r ≡ Refused k place → Ran room v r d w u (reading link s room)
-    unfolding reading
-    ran_halt q h = let f = rw q at e in rw (← f.is, h) (record { is = refl; small = f.within; settled = tt; keeps = λ _. tt })
-
-    pub ran_onward : {body : ℕ} → a ≡ Behind body → Ran room v r d w u (whole s room (origin body (vocabulary (unlisted c) t))) → Ran room v r d w u (reading link s room)
-    unfolding reading
-    ran_onward q p = let f = rw q at e in rw (← f.is) p
-
-pub small_refused : {r : Ended} {k p : ℕ} → r ≡ Refused k p → Small r → (k ≤ 15) × (p ≤ 16384)
-small_refused q h = rw q at h
+  pub ran_onward : {body : ℕ} {r : Answered ℕ Fault} → Starts s (Ok body) c t x → Ran room v r d w u (whole s room (origin body (vocabulary (unlisted c) t))) → Ran room v r d w u (reading link s room)
+  unfolding reading
+  ran_onward o p = rw (← o.is) p
 
 abbrev ending_number : Ending → ℕ
 ending_number (ended n x) = 0
 ending_number (faulty k p) = p * 32 + k
 
-number_seen : (r : Ended) (c t : List ℕ) → answer_number r ≡ ending_number (seen_ending r c t)
-number_seen (Accepted n) c t = refl
-number_seen (Refused k p) c t = refl
-
 number_ending : (n : ℕ) (x : Result) → ending_number (ending_of n x) ≡ number_of x
 number_ending n (accepted es m) = refl
 number_ending n (refusal k p) = refl
 
-pub check_is : (s : List ℕ) {v : List ℕ} {r : Ended} {c t w : List ℕ} → Ran 32768 v r c t w (reading link s 32768) → answer_number r ≡ check_of link s
-unfolding check_of link
-check_is s {r = r} {c} {t} p = number_seen r c t ∙ ap ending_number p.is ∙ number_ending 0 (reading link s 32768)
+module _ (s : List ℕ) {v c t w : List ℕ} where
+  pub check_fault : {f : Fault} → Ran 32768 v (Err f) c t w (reading link s 32768) → fault_number f ≡ check_of link s
+  unfolding check_of link
+  check_fault p = ap ending_number p.is ∙ number_ending 0 (reading link s 32768)
+
+  pub check_passed : {n : ℕ} → Ran 32768 v (Ok n) c t w (reading link s 32768) → 0 ≡ check_of link s
+  unfolding check_of link
+  check_passed p = ap ending_number p.is ∙ number_ending 0 (reading link s 32768)

@@ -9,22 +9,24 @@ use native.Mathlib.Decide.{ℕ_discrete}
 use borrow.Author.Tests.{eq-eqb, ne_eqb}
 use lib.ListN.{length, drop, replicate, length-append, length-map, length-replicate, replicate-append-replicate}
 use lib.Seq.{drop_at, sets-eq}
+use Rattle.std.specs.Prelude.{Result as Answered, Ok, Err}
 use Rattle.format.specs.Tables.{link}
+use Rattle.format.specs.declared.refusals.Fault.{Fault}
+use Rattle.format.specs.declared.refusals.Refusal.TheVariants.{Size, Room}
 use Rattle.tables.specs.declared.Counts.{Counts}
 use Rattle.tables.specs.Counts.{table_words, counts_of, entry_words, words_of}
 use Rattle.tables.specs.Rows.{vocabulary}
 use Rattle.tables.specs.Kept.{listed, unlisted, Clean}
-use Rattle.tables.proofs.Laws.{counts_are}
+use Rattle.tables.specs.Told.{entries_of}
+use Rattle.tables.proofs.Laws.{counts_are, entries_are}
 use Rattle.index.proofs.Counted.{words-listed}
 use Rattle.events.specs.declared.Event.{Event}
 use Rattle.events.specs.Records.{blank}
 use Rattle.events.specs.Words.{record_words, row_words}
 use Rattle.events.proofs.BlankWords.{blank-words, blank_all}
-use Rattle.reader.specs.declared.run.Ended.{Ended}
-use Rattle.reader.specs.declared.run.Ended.TheVariants.{Accepted, Refused}
 use Rattle.reader.specs.Reading.{EventRead, record_read, Result, accepted, refusal, sized, reading, outcome, read_of}
 use Rattle.reader.specs.Words.{leaving, nothing, in_words, read_words}
-use Rattle.reader.specs.RunContracts.{ended, faulty, ending_of, event_words, kept_from, answer_number, Ran}
+use Rattle.reader.specs.RunContracts.{ended, faulty, ending_of, event_words, kept_from, fault_number, left_by, Small, Ran}
 
 -- ---- what a run's end comes to in words
 drop_zeros : (r k : ℕ) → k ≤ r → drop k (replicate {A = ℕ} r 0) ≡ replicate (r - k) 0
@@ -66,7 +68,7 @@ accepted_words : (r n : ℕ) (d : Counts) (w v : List ℕ) (x : Result) → ende
     → leaving (n * 2 ^ 32) v w (listed d) ≡ in_words r (outcome x (r / 14))
 unfolding Clean in_words
 accepted_words r n d w v (refusal j p) e h g k = let z : ◌≡◌ {A = ℕ} 0 1 = cc in absurd (omega arith)
-accepted_words r n d w v (accepted es m) e h g k = λ i. leaving (word i) (record_words_lem i) (table_words_lem i) (listed (counts i))
+accepted_words r n d w v (accepted es m) e h g k = λ i. leaving (word i) (record_words_lem i) (table_words_lem i) (count_words i)
   where
     events_are : length (map record_read es) ≡ length es
     events_are = length-map es record_read
@@ -86,8 +88,8 @@ accepted_words r n d w v (accepted es m) e h g k = λ i. leaving (word i) (recor
     table_words_lem : w ≡ words_of entry_words m.state.tables
     table_words_lem = sym g ∙ ap (words_of entry_words) known
 
-    counts : d ≡ counts_of m.state.tables
-    counts = sym (counts_are d w) ∙ ap counts_of known
+    count_words : listed d ≡ entries_of m.state.tables
+    count_words = ap listed (sym (counts_are d w) ∙ ap counts_of known) ∙ sym (entries_are m.state.tables)
 
     record_words_lem : v ≡ row_words (map record_read es ++ replicate (r / 14 - length (map record_read es)) blank) ++ replicate (r % 14) 0
     record_words_lem =
@@ -99,21 +101,24 @@ accepted_words r n d w v (accepted es m) e h g k = λ i. leaving (word i) (recor
 
 -- ---- by cases
 module _ (s : List ℕ) (r t c : ℕ) where
-  pub words_size : false ≡ sized link s → nothing 1 r t c ≡ read_words link s r t c
+  abbrev Left : Answered ℕ Fault → (v w d : List ℕ) → Type 0
+  Left y v w d = (left_by y r t c v w d ≡ read_words link s r t c) × Small y
+
+  pub words_size : {f : Fault} → f ≡ record { refusal = Size; at = 0 } → false ≡ sized link s → Left (Err f) [] [] []
   unfolding read_words
-  words_size e = rw (← e)
+  words_size q e = rw (q, ← e) (refl, omega arith)
 
   module _ (size : true ≡ sized link s) where
-    pub words_counts : (c ≡ 10 → ⊥) → nothing 14 r t c ≡ read_words link s r t c
-    unfolding read_words
-    words_counts n = rw (← size, ne_eqb _ _ n)
-
-    pub words-tables : (t ≡ table_words → ⊥) → nothing 14 r t c ≡ read_words link s r t c
+    words_room : (t ≡ table_words → c ≡ 10 → ⊥) → nothing 14 r t c ≡ read_words link s r t c
     unfolding read_words read_of in_words
-    words-tables n = elim (ℕ_discrete c 10) [
-      | yes b ↦ rw (b, ← size, ne_eqb _ _ n, blank_all r)
-      | no b ↦ words_counts b
-    ]
+    words_room n =
+        elim (ℕ_discrete c 10) [
+          | yes b ↦ let m : t ≡ table_words → ⊥ = λ a. n a b in rw (b, ← size, ne_eqb _ _ m, blank_all r)
+          | no b ↦ rw (← size, ne_eqb _ _ b)
+        ]
+
+    pub room_refused : {f : Fault} → f ≡ record { refusal = Room; at = 0 } → (t ≡ table_words → c ≡ 10 → ⊥) → Left (Err f) [] [] []
+    room_refused q n = rw q (words_room n, omega arith)
 
     module _ (a : t ≡ table_words) (b : c ≡ 10) where
       fields_first : in_words r (outcome (reading link s (r / 14)) (r / 14)) ≡ read_words link s r t c
@@ -121,18 +126,20 @@ module _ (s : List ℕ) (r t c : ℕ) where
       fields_first = rw (← size, eq-eqb _ _ a, eq-eqb _ _ b)
 
       -- a run that came out as y
-      module _ {v : List ℕ} {y : Ended} {c' w' v' : List ℕ} (p : Ran (r / 14) v y c' w' v' (reading link s (r / 14))) where
-        pub words_refused : {k place : ℕ} → y ≡ Refused k place → {n : ℕ} → n ≡ answer_number y → {v₀ w₀ c₀ : List ℕ} → v₀ ≡ replicate r 0 → w₀ ≡ replicate t 0 → c₀ ≡ replicate c 0 → leaving n v₀ w₀ c₀ ≡ read_words link s r t c
-        words_refused {k} {place} q {n} e g h l =
-            let f : faulty k place ≡ ending_of 0 (reading link s (r / 14)) = rw q at p.is in
-            let m : n ≡ place * 32 + k = e ∙ ap answer_number q in
-            (λ i. leaving (m i) (g i) (h i) (l i)) ∙ (λ i. leaving (place * 32 + k) (replicate r 0) (replicate (a i) 0) (replicate (b i) 0)) ∙ refused_words r k place (reading link s (r / 14)) f ∙ fields_first
+      pub words_left : {v : List ℕ} (y : Answered ℕ Fault) {c' w' v' : List ℕ} → Ran (r / 14) v y c' w' v' (reading link s (r / 14)) → v ≡ replicate r 0 → Left y v' w' c'
+      words_left (Err f) p z = (rw (a, b) (refused_words r _ f.at (reading link s (r / 14)) p.is) ∙ fields_first, p.small)
+      words_left (Ok n) {c'} {w'} {v'} p z =
+          let g = p.settled in
+          let k : v' ≡ kept_from (replicate r 0) 0 (reading link s (r / 14)) = rw z at (p.keeps (rw (z, length-replicate {A = ℕ} r 0) (omega arith))) in
+          (ap (leaving (n * 2 ^ 32) v' w') (sym (words-listed c' g.1)) ∙ accepted_words r n (unlisted c') w' v' (reading link s (r / 14)) p.is g.0 g.2 k ∙ fields_first, p.small)
 
-        pub words_accepted : {n : ℕ} → y ≡ Accepted n → v ≡ replicate r 0 → leaving (n * 2 ^ 32 % 2 ^ 64) v' w' c' ≡ read_words link s r t c
-        words_accepted {n} q z =
-            let f : ended n (vocabulary (unlisted c') w') ≡ ending_of 0 (reading link s (r / 14)) = rw q at p.is in
-            let g : (n ≤ r / 14) × (length c' ≡ 10) × Clean (unlisted c') w' = rw q at p.settled in
-            let h : n ≤ 32769 = rw q at p.small in
-            let x : n * 2 ^ 32 % 2 ^ 64 ≡ n * 2 ^ 32 = omega arith in
-            let k : v' ≡ kept_from (replicate r 0) 0 (reading link s (r / 14)) = rw (q, z) at (p.keeps (rw (z, length-replicate {A = ℕ} r 0) (omega arith))) in
-            rw x (ap (leaving (n * 2 ^ 32) v' w') (sym (words-listed c' g.1)) ∙ accepted_words r n (unlisted c') w' v' (reading link s (r / 14)) f g.0 g.2 k ∙ fields_first)
+-- in words whose numbers have other names
+module _ (s : List ℕ) (r t c : ℕ) {r' t' c' : ℕ} (er : r' ≡ r) (et : t' ≡ t) (ec : c' ≡ c) {n : ℕ} {v w d : List ℕ} where
+  pub words_accepted : {k : ℕ} → Left s r' t' c' (Ok k) v w d → n ≡ k → leaving (n * 2 ^ 32 % 2 ^ 64) v w d ≡ read_words link s r t c
+  words_accepted p e =
+      let l = p.1 in
+      let x : n * 2 ^ 32 % 2 ^ 64 ≡ n * 2 ^ 32 = omega arith in
+      rw (x, e, ← er, ← et, ← ec) p.0
+
+  pub words_refused : (f : Fault) → Left s r' t' c' (Err f) [] [] [] → n ≡ fault_number f → v ≡ replicate r 0 → w ≡ replicate t 0 → d ≡ replicate c 0 → leaving n v w d ≡ read_words link s r t c
+  words_refused f p e a b q = rw (e, a, b, q, ← er, ← et, ← ec) p.0

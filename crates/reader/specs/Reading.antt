@@ -1,20 +1,21 @@
 -- The reading definition: what a reader answers and leaves in the lent room, for every input.
-use Rattle.std.specs.Prelude.{ℕ, zero, suc, ◌+◌, ◌-◌, ◌*◌, ◌/◌, ◌≡◌, Bool, ◌&&◌, List, [], ◌∷◌, ◌++◌, map, length, get_or, take, replicate, eqb, ltb, leb}
+use Rattle.std.specs.Prelude as Std
+use Rattle.std.specs.Prelude.{Ok, Err, ℕ, zero, suc, ◌+◌, ◌-◌, ◌*◌, ◌/◌, ◌≡◌, Bool, ◌&&◌, List, [], ◌∷◌, ◌++◌, map, length, get_or, take, replicate, eqb, ltb, leb}
 use Rattle.format.specs.Octets.{Octets, Words}
 use Rattle.format.specs.Numbers.{pick}
 use Rattle.format.specs.Events.{Item}
 use Rattle.format.specs.Tables.{Vocabulary, same, Version}
 use Rattle.format.specs.Items.{State}
 use Rattle.format.specs.Document.{beginning}
-use Rattle.format.specs.Refusals.{SIZE, TRUNCATED, HEADER, OPTIONAL_PART, PADDING, ROOM}
-use Rattle.tables.specs.Counts.{counts_of, table_words, entry_words, words_of}
+use Rattle.format.specs.Refusals.{SIZE, TRUNCATED, HEADER, OPTIONAL_PART, PADDING, ROOM, refusal_number}
+use Rattle.format.specs.declared.refusals.Fault.{Fault}
+use Rattle.tables.specs.Counts.{table_words, entry_words, words_of}
 use Rattle.tables.specs.Kept.{listed}
 use Rattle.tables.specs.Told.{Told, told_accepted, told_refused, entries_of}
 use Rattle.events.specs.declared.Event.{Event}
 use Rattle.tables.specs.Located.{Located, plain, plain_state, start}
 use Rattle.events.specs.Records.{blank, record_at}
-use Rattle.reader.specs.declared.Answer as A
-use Rattle.reader.specs.declared.Answer.TheVariants.{Accepted, Refused}
+use Rattle.reader.specs.declared.Accepted.{Accepted}
 use Rattle.read_names.specs.Strings.{got, refused}
 use Rattle.read_head.specs.Head.{Passed, head_at}
 use Rattle.read_items.specs.Steps.{step}
@@ -135,29 +136,27 @@ module _ (ver : Version) (s : Octets) where
     pub end_is : plain_state s last.state ≡ z
 
 -- What the requirements' table says of each answer.
-abbrev pub told : A.Answer → Told
-told (Accepted n c) = told_accepted n (listed c)
-told (Refused k p) = told_refused k p
+abbrev pub told : Std.Result Accepted Fault → Told
+told (Ok a) = told_accepted a.events (listed a.counts)
+told (Err f) = told_refused (refusal_number f.refusal) f.at
 
--- What a call answers and leaves: the answer, as an enum and in the requirements' numbers, every event record, every table word.
+-- What a call answers, in the requirements' numbers, and what it leaves: every event record, every table word.
 pub record Outcome : Type 0 where
-  pub answer : A.Answer
   pub told : Told
   pub row : List Event
   pub tables : Words
 
--- A call answered and left this.
-abbrev pub Leaves : A.Answer → List Event → Words → Outcome → Type 0
-Leaves r row tables o = (r ≡ o.answer) × (told r ≡ o.told) × (row ≡ o.row) × (tables ≡ o.tables)
+-- A call answered and left this. No two answers are told alike.
+abbrev pub Leaves : Std.Result Accepted Fault → List Event → Words → Outcome → Type 0
+Leaves r row tables o = (told r ≡ o.told) × (row ≡ o.row) × (tables ≡ o.tables)
 
 -- A refusal blanks all the room that was lent.
 abbrev pub refusing : ℕ → ℕ → ℕ → ℕ → Outcome
-refusing n p room table = record { answer = Refused n p; told = told_refused n p; row = replicate room blank; tables = replicate table 0 }
+refusing n p room table = record { told = told_refused n p; row = replicate room blank; tables = replicate table 0 }
 
 abbrev pub accepting : List Event → Vocabulary Located → ℕ → Outcome
 accepting es v room =
     record {
-      answer = Accepted (length es) (counts_of v);
       told = told_accepted (length es) (entries_of v);
       row = es ++ replicate (room - length es) blank;
       tables = words_of entry_words v;

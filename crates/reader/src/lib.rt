@@ -5,12 +5,12 @@
 mod lane;
 mod run;
 
-pub use run::{Front, Opening, check, opened, read_words, sized};
+pub use run::{begun, check, read_words, sized};
 use tables::Counts;
 
-// What the reading definition answers, and `read_rows` by it: accepted, with the number of events and the ten counts; or the refusal's number and place.
+// An accepted document: the number of its events, and how many entries each of its ten tables has.
 #[derive(Clone, Copy)]
-pub enum Answer {
-    Accepted(u32, Counts),
-    Refused(u32, u32),
+pub struct Accepted {
+    pub events: u32,
+    pub counts: Counts,
 }

@@ -102,11 +102,18 @@ pub fn put_counts(w: &mut [u32], c: Counts)
     requires { length w.old ≡ 10 }
     ensures { w.new ≡ listed c }
 {
-    let mut i = 0;
-    while i < Counts::TABLES {
-        w[i] = c.of(i);
-        i += 1;
-    }
+    w.copy_from_slice(&[
+        c.prefix,
+        c.namespace,
+        c.local,
+        c.ncname,
+        c.uri,
+        c.value,
+        c.chunk,
+        c.other,
+        c.element,
+        c.attribute,
+    ]);
 }
 
 // The same from ten words.
@@ -179,11 +186,7 @@ pub fn add(t: &mut [u32], table: usize, n: u32, a: u32, b: u32, c: u32)
 pub fn clear(t: &mut [u32])
     ensures { t.new ≡ replicate (length t.old) 0 }
 {
-    let mut i = 0;
-    while i < t.len() {
-        t[i] = 0;
-        i += 1;
-    }
+    t.fill(0);
 }
 
 // Whether n octets of x, from a on, are those of y, from b on: octet by octet, from the last one back, for strings that have no four.
@@ -191,9 +194,7 @@ fn same_few(x: &[u8], a: usize, y: &[u8], b: usize, n: usize) -> bool
     requires { (a + n ≤ length x.now) × (b + n ≤ length y.now) }
     ensures { result ≡ same (octets_of x.now (stretch Utf8 a n)) (octets_of y.now (stretch Utf8 b n)) }
 {
-    let mut i = n;
-    while 0 < i {
-        i -= 1;
+    for i in (0..n).rev() {
         if x[a + i] != y[b + i] {
             return false;
         }
@@ -274,12 +275,10 @@ pub fn find_any(s: &[u8], t: &[u32], table: usize, n: u32, place: usize, len: us
     requires { (length t.now ≡ table_words) × (table < 5) × (n ≤ 256) × (place + len ≤ length s.now) × Inside s.now (entries (string_at (table_of table) t.now) (768 * table) n) }
     ensures { result ≡ number_in (map (octets_of s.now) (entries (string_at (table_of table) t.now) (768 * table) n)) (octets_of s.now (stretch Utf8 place len)) }
 {
-    let mut i = 0;
-    while i < n {
+    for i in 0..n {
         if is_string(s, t, table, i, place, len) {
             return i + 1;
         }
-        i += 1;
     }
     0
 }
@@ -330,13 +329,7 @@ pub fn is_name(t: &[u32], j: usize, prefix: u32, namespace: u32, local: u32) -> 
     requires { (length t.now ≡ table_words) × (j + 3 ≤ table_words) }
     ensures { result ≡ same_triple (triple_at t.now j) (record { prefix = prefix; namespace = namespace; local = local }) }
 {
-    if t[j + 2] != local {
-        return false;
-    }
-    if t[j + 1] != namespace {
-        return false;
-    }
-    t[j] == prefix
+    t[j + 2] == local && t[j + 1] == namespace && t[j] == prefix
 }
 
 // The octet's part that begins a name of table 8 or 9 in parts: 1111pn, or 11110pn.

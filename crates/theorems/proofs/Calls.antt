@@ -1,29 +1,31 @@
 -- DEMANDS 1 AND 3 OF THE CODE. The contract of `reader::read::read` equates what a call answers and leaves with `read_of`, that of `lomphachit_read` with
 -- `read_words`, and that of the check its answer with `check_of`: so a call accepts exactly what the rules write, and hands out those events, whatever stood in
 -- the room. That there is one such pair only is `one_pair`, beside this file.
-use Prim.Native.Nat.{ℕ, ◌+◌, ◌*◌, ◌/◌, ◌^◌, ◌≤◌}
+use Prim.Native.Nat.{ℕ, ◌+◌, ◌*◌, ◌/◌, ◌^◌, ◌≤◌, ◌<◌}
 use mathlib.Core.Path.{◌≡◌, refl, sym, ap, ◌∙◌}
 use mathlib.Core.Bool.{Bool, true, false}
 use mathlib.Core.List.{List, map}
 use native.Mathlib.Omega.{arith}
 use lib.ListN.{length}
 use lib.Dec.{eqb}
+use Rattle.std.specs.Prelude as Std
 use Rattle.format.specs.Octets.{Octets, Words, AreOctets}
+use Rattle.format.specs.declared.refusals.Fault.{Fault}
 use Rattle.format.specs.Numbers.{pick}
 use Rattle.format.specs.Events.{Item}
 use Rattle.format.specs.Tables.{Version}
 use Rattle.format.specs.Head.{Head}
 use Rattle.format.specs.Items.{State}
 use Rattle.format.specs.Document.{Document}
-use Rattle.tables.specs.declared.Counts.{Counts}
 use Rattle.tables.specs.Counts.{table_words}
+use Rattle.tables.specs.Told.{Told, told_accepted, whole_word}
 use Rattle.tables.specs.Located.{Located, plain, plain_state}
 use Rattle.events.specs.declared.Event.{Event}
-use Rattle.reader.specs.declared.Answer.{Answer}
-use Rattle.reader.specs.declared.Answer.TheVariants.{Accepted, Refused}
+use Rattle.reader.specs.declared.Accepted.{Accepted}
 use Rattle.reader.specs.Reading.{EventRead, items_read, record_read, Result, accepted, refusal, sized, reading, Outcome, Leaves, refusing, accepting, outcome, read_of, number_of, check_of}
-use Rattle.reader.specs.Words.{answer_word, leaving, nothing, in_words, read_words}
+use Rattle.reader.specs.Words.{leaving, nothing, in_words, read_words}
 use Rattle.theorems.specs.Bounded.{Bounded}
+use Rattle.theorems.proofs.Alike.{read_alike}
 use Rattle.theorems.proofs.Fits.{accepted_sized}
 use Rattle.theorems.proofs.Document as Whole
 use Rattle.theorems.proofs.Demands.{check_needs_none}
@@ -45,21 +47,21 @@ pub record Handed (ver : Version) (s : Octets) (room : ℕ) (o : Outcome) : Type
 
 module _ (ver : Version) (ok : Bounded ver) (s : Octets) (bytes : AreOctets s) where
   module _ (room : ℕ) where
-    from_result : (a : Result) → Whole.Means ver ok s bytes a → (n : ℕ) (c : Counts) → (outcome a room).answer ≡ Accepted n c → Handed ver s room (outcome a room)
-    from_result (accepted es m) w n c e = record { head = w.0; events = es; last = m.state; is = refl; writes = w.1 }
-    from_result (refusal k p) w n c e = absurd (let z : ◌≡◌ {A = ℕ} 0 1 = cc in omega arith)
+    from_result : (a : Result) → Whole.Means ver ok s bytes a → (outcome a room).told.number ≡ 0 → Handed ver s room (outcome a room)
+    from_result (accepted es m) w e = record { head = w.0; events = es; last = m.state; is = refl; writes = w.1 }
+    from_result (refusal k p) w e = absurd (omega arith)
 
-    by_room : (table n : ℕ) (c : Counts) (b d : Bool)
-        → (pick b (pick d (outcome (reading ver s room) room) (refusing 14 0 room table)) (refusing 1 0 room table)).answer ≡ Accepted n c
+    by_room : (table : ℕ) (b d : Bool)
+        → (pick b (pick d (outcome (reading ver s room) room) (refusing 14 0 room table)) (refusing 1 0 room table)).told.number ≡ 0
         → Handed ver s room (pick b (pick d (outcome (reading ver s room) room) (refusing 14 0 room table)) (refusing 1 0 room table))
-    by_room table n c true true e = from_result (reading ver s room) (Whole.means ver ok s bytes room) n c e
-    by_room table n c true false e = absurd (let z : ◌≡◌ {A = ℕ} 0 1 = cc in omega arith)
-    by_room table n c false d e = absurd (let z : ◌≡◌ {A = ℕ} 0 1 = cc in omega arith)
+    by_room table true true e = from_result (reading ver s room) (Whole.means ver ok s bytes room) e
+    by_room table true false e = absurd (omega arith)
+    by_room table false d e = absurd (omega arith)
 
     -- 13. READ ACCEPTS what the rules write, and the events in the row are those.
-    pub read_accepts : (table n : ℕ) (c : Counts) → (read_of ver s room table).answer ≡ Accepted n c → Handed ver s room (read_of ver s room table)
+    pub read_accepts : (table n : ℕ) (counts : Words) → (read_of ver s room table).told ≡ told_accepted n counts → Handed ver s room (read_of ver s room table)
     unfolding read_of
-    read_accepts table n c e = by_room table n c (sized ver s) (eqb table table_words) e
+    read_accepts table n counts e = by_room table (sized ver s) (eqb table table_words) (ap (λ (t : Told). t.number) e)
 
     --     And all that the rules write, if there is a record for each event and the table room is right; the events in the row are those of the items, and the
     --     tables in the words those that the rules know at the end.
@@ -100,27 +102,23 @@ module _ (ver : Version) (ok : Bounded ver) (s : Octets) (bytes : AreOctets s) w
     abbrev left : Outcome
     left = read_of ver s (r / 14) t
 
-    from_refusal : (a : Result) → Whole.Means ver ok s bytes a → (k p : ℕ) → (outcome a (r / 14)).answer ≡ Refused k p → (1 ≤ k) × (k ≤ 15)
-    from_refusal (accepted es m) w k p e = absurd (let z : ◌≡◌ {A = ℕ} 0 1 = cc in omega arith)
-    from_refusal (refusal n place) w k p e =
-        let ek : n ≡ k = cc in
-        omega arith
+    small : (a : Result) → Whole.Means ver ok s bytes a → (outcome a (r / 14)).told.number < 32
+    small (accepted es m) w = omega arith
+    small (refusal k p) w = omega arith
 
-    refused_small : (b d : Bool) (k p : ℕ)
-        → (pick b (pick d (outcome (reading ver s (r / 14)) (r / 14)) (refusing 14 0 (r / 14) t)) (refusing 1 0 (r / 14) t)).answer ≡ Refused k p → (1 ≤ k) × (k ≤ 15)
-    refused_small true true k p e = from_refusal (reading ver s (r / 14)) (Whole.means ver ok s bytes (r / 14)) k p e
-    refused_small true false k p e = let ek : 14 ≡ k = cc in omega arith
-    refused_small false d k p e = let ek : 1 ≡ k = cc in omega arith
+    small_room : (b d : Bool) → (pick b (pick d (outcome (reading ver s (r / 14)) (r / 14)) (refusing 14 0 (r / 14) t)) (refusing 1 0 (r / 14) t)).told.number < 32
+    small_room true true = small (reading ver s (r / 14)) (Whole.means ver ok s bytes (r / 14))
+    small_room true false = omega arith
+    small_room false d = omega arith
 
-    by_answer : (n : ℕ) (a : Answer) → left.answer ≡ a → answer_word a ≡ n * 2 ^ 32 → Handed ver s (r / 14) left
+    by_answer : (n : ℕ) → whole_word left.told ≡ n * 2 ^ 32 → Handed ver s (r / 14) left
     unfolding read_of
-    by_answer n (Accepted m c) e q = read_accepts (r / 14) t m c e
-    by_answer n (Refused k p) e q = let f = refused_small (sized ver s) (eqb t table_words) k p e in absurd (omega arith)
+    by_answer n e = let l = small_room (sized ver s) (eqb t table_words) in by_room (r / 14) t (sized ver s) (eqb t table_words) (omega arith)
 
     by_words_lem : (c n : ℕ) (b d : Bool) → (pick b (pick d (in_words r left) (nothing 14 r t c)) (nothing 1 r t c)).answer ≡ n * 2 ^ 32
         → Handed ver s (r / 14) left × (pick b (pick d (in_words r left) (nothing 14 r t c)) (nothing 1 r t c) ≡ in_words r left)
     unfolding in_words
-    by_words_lem c n true true e = (by_answer n left.answer refl e, refl)
+    by_words_lem c n true true e = (by_answer n e, refl)
     by_words_lem c n true false e = absurd (omega arith)
     by_words_lem c n false d e = absurd (omega arith)
 
@@ -138,13 +136,13 @@ module _ (ver : Version) (ok : Bounded ver) (s : Octets) (bytes : AreOctets s) w
 
 -- 16. DEMAND 1: what a call answers and leaves depends on the octets, and on how much room is lent, but not on what stood in it: e and t before one call, f and u
 --     before another.
-module _ (ver : Version) (s : Octets) (e f : List Event) (t u : Words) (a b : Answer) (e' f' : List Event) (t' u' : Words) where
+module _ (ver : Version) (s : Octets) (e f : List Event) (t u : Words) (a b : Std.Result Accepted Fault) (e' f' : List Event) (t' u' : Words) where
   pub whatever_stood : length e ≡ length f → length t ≡ length u → Leaves a e' t' (read_of ver s (length e) (length t)) → Leaves b f' u' (read_of ver s (length f) (length u))
       → (a ≡ b) × (e' ≡ f') × (t' ≡ u')
-  whatever_stood l m x y = let y' = rw (← l, ← m) at y in (x.0 ∙ sym y'.0, x.2 ∙ sym y'.2, x.3 ∙ sym y'.3)
+  whatever_stood l m x y = let y' = rw (← l, ← m) at y in (read_alike a b (x.0 ∙ sym y'.0), x.1 ∙ sym y'.1, x.2 ∙ sym y'.2)
 
 --     And a second call on what the first left, whose lengths are what they were, answers and leaves the same.
-pub read_twice : (ver : Version) (s : Octets) (e e' e'' : List Event) (t t' t'' : Words) (a b : Answer) → length e' ≡ length e → length t' ≡ length t
+pub read_twice : (ver : Version) (s : Octets) (e e' e'' : List Event) (t t' t'' : Words) (a b : Std.Result Accepted Fault) → length e' ≡ length e → length t' ≡ length t
     → Leaves a e' t' (read_of ver s (length e) (length t)) → Leaves b e'' t'' (read_of ver s (length e') (length t')) → (b ≡ a) × (e'' ≡ e') × (t'' ≡ t')
 read_twice ver s e e' e'' t t' t'' a b l m x y = whatever_stood ver s e' e t' t b a e'' e' t'' t' l m y x
 

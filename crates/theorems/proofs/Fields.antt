@@ -11,8 +11,11 @@ use Rattle.format.specs.Forms.{Spelled}
 use Rattle.format.specs.Tables.{Vocabulary}
 use Rattle.format.specs.Strings.{with_length, Spelling}
 use Rattle.format.specs.declared.StringForm.{StringForm}
-use Rattle.fields.specs.declared.Number.{Number}
-use Rattle.fields.specs.declared.Number.TheVariants.{Got as Num, Refused as NoNum}
+use Rattle.std.specs.Prelude.{Result, Ok as Num, Err as NoNum}
+use Rattle.format.specs.Refusals.{refusal_number}
+use Rattle.format.specs.declared.refusals.Fault.{Fault as NumFault}
+use Rattle.fields.specs.declared.Read.{Read}
+use Rattle.fields.specs.Fields as F
 use Rattle.fields.specs.Fields.{field_at, no_top}
 use Rattle.fields.specs.Utf8.{is_text}
 use Rattle.fields.proofs.Forms.{rooms, Ordered}
@@ -40,12 +43,12 @@ module _ (s : Octets) where
   Ok R k v (refused n p) = Fault s n p
 
   -- a number of which Q is told, then the rest
-  pub on_told : {C : Type 0} (P : Got C → Type 0) → ((c p : ℕ) → Fault s c p → P (refused c p)) → (Q : ℕ → ℕ → Type 0) (a : Number) → Told s Q a
+  pub on_told : {C : Type 0} (P : Got C → Type 0) → ((c p : ℕ) → Fault s c p → P (refused c p)) → (Q : ℕ → ℕ → Type 0) (a : Result (Read ℕ) NumFault) → Told s Q a
       → (f : ℕ → ℕ → Got C) → ((n next : ℕ) → Q n next → P (f n next)) → P (number a f)
-  on_told P nay Q (Num n c) r f g = g n c.at r
-  on_told P nay Q (NoNum c p) r f g = nay c p r
+  on_told P nay Q (Num a) r f g = g a.value a.next r
+  on_told P nay Q (NoNum e) r f g = nay (refusal_number e.refusal) e.at r
 
-  pub on_number : {C : Type 0} (P : Got C → Type 0) → ((c p : ℕ) → Fault s c p → P (refused c p)) → (fs : List Form) (top base k : ℕ) (a : Number) → NumOk s fs top base k a
+  pub on_number : {C : Type 0} (P : Got C → Type 0) → ((c p : ℕ) → Fault s c p → P (refused c p)) → (fs : List Form) (top base k : ℕ) (a : Result (Read ℕ) NumFault) → NumOk s fs top base k a
       → (f : ℕ → ℕ → Got C) → ((n next : ℕ) → NumRead s fs top base k n next → P (f n next)) → P (number a f)
   on_number P nay fs top base k a r f g = on_told P nay (NumRead s fs top base k) a r f g
 
@@ -109,7 +112,7 @@ module _ (s : Octets) where
   -- a length and the octets y stand at k, behind the bits `base` of the first octet
   pub record Spelt (fs : List Form) (bit base k : ℕ) (y : Octets) : Type 0 where
     pub next : ℕ
-    pub num : field_at fs no_top bit s k ≡ Num (length y) (record { at = next })
+    pub num : field_at fs no_top bit s k ≡ F.got (length y) next
     pub octets_are : take (length y) (drop next s) ≡ y
     pub room : next + length y ≤ length s
     pub end_is : next + length y ≡ k + length (with_length fs base y)

@@ -18,8 +18,10 @@ use Rattle.format.specs.Tables.{StringTable, Vocabulary, strings, Version}
 use Rattle.format.specs.Strings.{with_length, Spelling, in_format, keeping}
 use Rattle.format.specs.declared.StringForm.{StringForm}
 use Rattle.format.specs.declared.StringForm.TheVariants.{Utf8, Utf16, Numeric, Dates, Short, Int, Long}
-use Rattle.fields.specs.declared.Number.{Number}
-use Rattle.fields.specs.declared.Number.TheVariants.{Got as Num}
+use Rattle.std.specs.Prelude.{Result}
+use Rattle.format.specs.declared.refusals.Fault.{Fault as NumFault}
+use Rattle.fields.specs.declared.Read.{Read}
+use Rattle.fields.specs.Fields as F
 use Rattle.fields.specs.Fields.{field_at, no_top}
 use Rattle.fields.proofs.Laws.{rooms_in}
 use Rattle.fields.proofs.Forms.{rooms}
@@ -110,7 +112,7 @@ module _ (ver : Version) (s : Octets) (t : StringTable) (k : ℕ) (added : Bool)
   -- ---- sound
   module _ (bytes : AreOctets s) (short : length s ≤ longest) (kl : k ≤ length s) (P : Got StringRead → Type 0) (nay : (c p : ℕ) → Fault s c p → P (refused c p)) where
     -- of its length, which stands at j, Q is told
-    formed_sound : (form : StringForm) (fs : List Form) (base j : ℕ) (Q : ℕ → ℕ → Type 0) → ((n place : ℕ) → Q n place → NumRead s fs no_top base j n place) → (a : Number) → Told s Q a
+    formed_sound : (form : StringForm) (fs : List Form) (base j : ℕ) (Q : ℕ → ℕ → Type 0) → ((n place : ℕ) → Q n place → NumRead s fs no_top base j n place) → (a : Result (Read ℕ) NumFault) → Told s Q a
         → ((n place : ℕ) → Q n place → Stands s form (with_length fs base) j place n → HasRoom → P (reads form place n)) → P (formed_at ver form s t k added a v)
     unfolding formed_at
     formed_sound form fs base j Q h a r g =
@@ -182,7 +184,7 @@ module _ (ver : Version) (s : Octets) (t : StringTable) (k : ℕ) (added : Bool)
   module _ (room : HasRoom) (bit base : ℕ) (g : Leads bit base) {x : Octets} (y rest : Octets) where
     -- its octets y from `place` on
     formed_complete : (form : StringForm) (place : ℕ) → Spelling form x y → take (length y) (drop place s) ≡ y → place + length y ≤ length s
-        → formed_at ver form s t k added (Num (length y) (record { at = place })) v ≡ reads form place (length y)
+        → formed_at ver form s t k added (F.got (length y) place) v ≡ reads form place (length y)
     unfolding formed_at
     formed_complete form place sp e r = rw (spelling_is s form place x y e sp.formed k _ r, or_room added (length (strings v t)) ver.entries room)
 

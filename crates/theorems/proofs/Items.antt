@@ -16,9 +16,11 @@ use Rattle.format.specs.Tables.{OTHER_NCNAME, ATTRIBUTE_VALUE, CONTENT_CHARACTER
 use Rattle.format.specs.Strings.{bit, c15}
 use Rattle.format.specs.Names.{of_element, of_attribute, Named, Declared}
 use Rattle.format.specs.Items.{Mode, content, declaring, listing, State, may_start, knowing, moved, opened, ItemWrittenAs, o_start, o_first_namespace, o_namespace, o_named_start, o_attribute, o_text, o_comment, o_instruction}
-use Rattle.fields.specs.declared.Cursor.{Cursor}
-use Rattle.fields.specs.declared.Number.{Number}
-use Rattle.fields.specs.declared.Number.TheVariants.{Got as Num, Refused as NoNum}
+use Rattle.std.specs.Prelude.{Result, Ok as Num, Err as NoNum}
+use Rattle.format.specs.declared.refusals.Fault.{Fault as NumFault}
+use Rattle.format.specs.declared.refusals.Refusal.TheVariants.{Padding}
+use Rattle.fields.specs.declared.Read.{Read}
+use Rattle.fields.specs.Fields as F
 use Rattle.fields.specs.Fields.{share_of, read_in, field_at}
 use Rattle.fields.proofs.Laws.{case, rooms_in}
 use Rattle.fields.proofs.Forms.{shares, rooms}
@@ -59,7 +61,7 @@ unfolding name_padding
 parts_unpadded b lo hi = rw (ne_eqb (b / 8) 6 (omega arith), ne_eqb (b / 4) 14 (omega arith))
 
 -- 110 and then not 000 is no number
-padded_refused : (s : Octets) (k b : ℕ) → 48 < b → b < 56 → read_in (shares (numbers 3)) top 1 s k b ≡ NoNum 6 k
+padded_refused : (s : Octets) (k b : ℕ) → 48 < b → b < 56 → read_in (shares (numbers 3)) top 1 s k b ≡ F.refused Padding k
 unfolding read_in share_of behind_first numbers
 padded_refused s k b lo hi =
     rw (
@@ -73,16 +75,16 @@ padded_refused s k b lo hi =
       lt-ltb (b - 32 - 8 - 8) 8 (omega arith),
     )
 
-is_no_number : {X : Type 0} (t : Bool) (a b : Number) (n : ℕ) (c : Cursor) (m p j q : ℕ) → a ≡ NoNum m p → b ≡ NoNum j q → pick t a b ≡ Num n c → X
-is_no_number true a b n c m p j q e f g = absurd (let z : NoNum m p ≡ Num n c = sym e ∙ g in let y : ◌≡◌ {A = ℕ} 0 1 = cc in omega arith)
-is_no_number false a b n c m p j q e f g = absurd (let z : NoNum j q ≡ Num n c = sym f ∙ g in let y : ◌≡◌ {A = ℕ} 0 1 = cc in omega arith)
+is_no_number : {X : Type 0} (t : Bool) (a b : Result (Read ℕ) NumFault) (r : Read ℕ) (m j : NumFault) → a ≡ NoNum m → b ≡ NoNum j → pick t a b ≡ Num r → X
+is_no_number true a b r m j e f g = absurd (cc)
+is_no_number false a b r m j e f g = absurd (cc)
 
-number_unpadded : (s : Octets) (k b n : ℕ) (c : Cursor) → field_at (numbers 3) top 3 s k ≡ Num n c → get_or s k 0 % 64 ≡ b → b < 56 → name_padding b ≡ false
+number_unpadded : (s : Octets) (k b : ℕ) (r : Read ℕ) → field_at (numbers 3) top 3 s k ≡ Num r → get_or s k 0 % 64 ≡ b → b < 56 → name_padding b ≡ false
 unfolding name_padding field_at
-number_unpadded s k b n c e z h =
+number_unpadded s k b r e z h =
     case b 48 (λ y. rw (ne_eqb (b / 8) 6 (omega arith), ne_eqb (b / 4) 14 (omega arith)))
     (λ y. case 48 b
-    (λ w. is_no_number (ltb k (length s)) _ _ n c 6 k 2 k (padded_refused s k (get_or s k 0 % 64) (omega arith) (omega arith)) refl e)
+    (λ w. is_no_number (ltb k (length s)) _ _ r _ _ (padded_refused s k (get_or s k 0 % 64) (omega arith) (omega arith)) refl e)
     (λ w. let q : b ≡ 48 = omega arith in rw q))
 
 -- ---- what is read is what the rules write
@@ -315,12 +317,12 @@ module _ (ver : Version) (s : Octets) where
   element_hit : (a : Bool) (k : ℕ) (v : State Located) {x : Name Octets} {h : NameHow} {os : Octets} {w : Vocabulary Octets} {p : List Located} → may_start v ≡ true → v.level < ver.depth → k < length s
       → NameHit ver s of_element (64 * bit a) k v.tables x h os w p → StartHit a k v x h os w p (child_at ver s k v)
   unfolding element_at of_element rooms_in share_of behind_first numbers
-  element_hit a k v {os = os} may deep l (hit_numbered o oc hi n c e hit) =
+  element_hit a k v {os = os} may deep l (hit_numbered o oc hi r e hit) =
       let z : get_or s k 0 % 64 ≡ o = let b1 = one_bit a in omega arith in
       record {
         name = hit.b;
         tables = hit.v;
-        goes = element_goes a k o v oc (omega arith) l ∙ rw (number_unpadded s k o n c e z hi, may, lt-ltb o 0x38 hi, hit.goes, lt-ltb v.level ver.depth deep);
+        goes = element_goes a k o v oc (omega arith) l ∙ rw (number_unpadded s k o r e z hi, may, lt-ltb o 0x38 hi, hit.goes, lt-ltb v.level ver.depth deep);
         what = hit.what;
         state = hit.state;
       }
@@ -337,9 +339,9 @@ module _ (ver : Version) (s : Octets) where
   named_hit : (a : Bool) (k : ℕ) (v : State Located) {x : Name Octets} {h : NameHow} {os : Octets} {w : Vocabulary Octets} {p : List Located} → k < length s
       → NameHit ver s of_element 0 k v.tables x h os w p → StartHit a k v x h os w p (named_at ver s k a v)
   unfolding named_at name_at of_element rooms_in share_of behind_first numbers
-  named_hit a k v l (hit_numbered o oc hi n c e hit) =
+  named_hit a k v l (hit_numbered o oc hi r e hit) =
       let q : get_or s k 0 ≡ o = omega arith in
-      rw (lt-ltb k (length s) l, q, ne_eqb (o % 64 / 4) 14 (omega arith), lt-ltb o 0x40 (omega arith), number_unpadded s k o n c e (omega arith) hi, lt-ltb o 0x3C (omega arith)) (start_hit a k v _ hit)
+      rw (lt-ltb k (length s) l, q, ne_eqb (o % 64 / 4) 14 (omega arith), lt-ltb o 0x40 (omega arith), number_unpadded s k o r e (omega arith) hi, lt-ltb o 0x3C (omega arith)) (start_hit a k v _ hit)
   named_hit a k v l (hit_parts o oc lo hi lone hit) =
       let q : get_or s k 0 ≡ o = omega arith in
       rw (lt-ltb k (length s) l, q, ne_eqb (o % 64 / 4) 14 (omega arith), lt-ltb o 0x40 hi, parts_unpadded o lo hi, le-ltb o 0x3C lo) (start_hit a k v _ hit)
@@ -348,12 +350,12 @@ module _ (ver : Version) (s : Octets) where
   attribute_hit : (k : ℕ) (v : Vocabulary Located) {x : Name Octets} {h : NameHow} {os : Octets} {w : Vocabulary Octets} {p : List Located} → NameHit ver s of_attribute 0 k v x h os w p
       → Hit s (NameQ ver s x h p) (k + length os) w (name_at ver of_attribute s (get_or s k 0) k v) × (get_or s k 0 < 0x7C)
   unfolding name_at of_attribute rooms_in share_of behind_first c25
-  attribute_hit k v (hit_numbered o oc hi n c e hit) = (rw (lt-ltb (get_or s k 0) 0x78 (omega arith)) hit, omega arith)
+  attribute_hit k v (hit_numbered o oc hi r e hit) = (rw (lt-ltb (get_or s k 0) 0x78 (omega arith)) hit, omega arith)
   attribute_hit k v (hit_parts o oc lo hi lone hit) = let q : get_or s k 0 ≡ o = omega arith in (rw (q, le-ltb o 0x78 lo) hit, omega arith)
 
   name_first : (a : Bool) {k : ℕ} {v : Vocabulary Located} {x : Name Octets} {h : NameHow} {os : Octets} {w : Vocabulary Octets} {p : List Located} → NameHit ver s of_element (64 * bit a) k v x h os w p → get_or s k 0 < 0x80
   unfolding of_element rooms_in share_of behind_first numbers
-  name_first a (hit_numbered o oc hi n c e hit) = let b1 = one_bit a in omega arith
+  name_first a (hit_numbered o oc hi r e hit) = let b1 = one_bit a in omega arith
   name_first a (hit_parts o oc lo hi lone hit) = let b1 = one_bit a in omega arith
 
   -- a Start or a declaration, found from octet j on, in an item that starts at k

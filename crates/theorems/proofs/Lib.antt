@@ -10,6 +10,7 @@ mod Names
 mod Items
 mod Run
 mod Alls
+mod Alike
 mod TenTables
 mod HeadOctets
 mod HeadEntries

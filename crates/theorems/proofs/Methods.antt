@@ -13,8 +13,12 @@ use lib.ListN.{length, get_or, take, drop}
 use lib.Pow.{pow_pos, pow_mono}
 use Rattle.format.specs.Octets.{Octets, AreOctets}
 use Rattle.format.specs.Numbers.{lengths}
-use Rattle.fields.specs.declared.Number.{Number}
-use Rattle.fields.specs.declared.Number.TheVariants.{Got as Num, Refused as NoNum}
+use Rattle.std.specs.Prelude.{Result, Ok as Num, Err as NoNum}
+use Rattle.format.specs.declared.refusals.Fault.{Fault as NumFault}
+use Rattle.format.specs.declared.refusals.Refusal.{Refusal}
+use Rattle.format.specs.declared.refusals.Refusal.TheVariants.{Truncated, Padding, Range, Format}
+use Rattle.fields.specs.declared.Read.{Read}
+use Rattle.fields.specs.Fields as F
 use Rattle.fields.specs.Fields.{value_from, behind, Share, share, field_at, no_top}
 use Rattle.fields.proofs.Laws.{case, sizes_in, rooms_in, Roomy}
 use Rattle.fields.proofs.Cases.{behind_got, field_form, field_padding}
@@ -85,29 +89,29 @@ few_methods algorithm_4 = omega arith
 few_methods algorithm_5 = omega arith
 
 -- ---- a number that is read: its value, and the place behind it
-not_number : (c p n next : ℕ) → NoNum c p ≡ Num n (record { at = next }) → ⊥
-not_number c p n next e = let z : ◌≡◌ {A = ℕ} 0 1 = cc in omega arith
+not_number : (c : Refusal) (p n next : ℕ) → F.refused {A = Read ℕ} c p ≡ F.got n next → ⊥
+not_number c p n next e = cc
 
-behind-told : (s : Octets) (at x more low size top n next : ℕ) → behind s at x more low size top ≡ Num n (record { at = next })
+behind-told : (s : Octets) (at x more low size top n next : ℕ) → behind s at x more low size top ≡ F.got n next
     → (low + value_from s (at + 1) x more ≡ n) × (at + 1 + more ≡ next)
 unfolding behind
 behind-told s at x more low size top n next =
-    let P : Number → Type 0 = (λ g. g ≡ Num n (record { at = next }) → (low + value_from s (at + 1) x more ≡ n) × (at + 1 + more ≡ next)) in
-    test P (NoNum 2 at) (λ e. absurd (not_number 2 at n next e)) (ltb (at + more) (length s)) _
-    λ t1. test P (NoNum 6 at) (λ e. absurd (not_number 6 at n next e)) (ltb (value_from s (at + 1) x more) size) _
-    λ t2. test P (NoNum 7 at) (λ e. absurd (not_number 7 at n next e)) (leb (low + value_from s (at + 1) x more) top) _
-    λ t3 e. (cc, ap (elim [ Num a c ↦ c.at | NoNum a c ↦ 0 ]) e)
+    let P : Result (Read ℕ) NumFault → Type 0 = (λ g. g ≡ F.got n next → (low + value_from s (at + 1) x more ≡ n) × (at + 1 + more ≡ next)) in
+    test P (F.refused Truncated at) (λ e. absurd (not_number Truncated at n next e)) (ltb (at + more) (length s)) _
+    λ t1. test P (F.refused Padding at) (λ e. absurd (not_number Padding at n next e)) (ltb (value_from s (at + 1) x more) size) _
+    λ t2. test P (F.refused Range at) (λ e. absurd (not_number Range at n next e)) (leb (low + value_from s (at + 1) x more) top) _
+    λ t3 e. (ap (elim [ Num a ↦ a.value | NoNum f ↦ 0 ]) e, ap (elim [ Num a ↦ a.next | NoNum f ↦ 0 ]) e)
 
 module _ (s : Octets) (bit f : ℕ) (l : 5 ≤ bit) (u : bit ≤ 7) (k : ℕ) where
   -- the length, read as any other
-  abbrev plain_length : Number
+  abbrev plain_length : Result (Read ℕ) NumFault
   plain_length = field_at (lengths bit) no_top bit s (suc k)
 
   -- b are the length's bits in the second octet: both definitions take them for the same form of a length, or for padding
   data Judged (b : ℕ) : Type 0 where
     clean : (x more low size : ℕ) → method_length bit f s k b ≡ method_behind bit f s k more (low + value_from s (k + 2) x more) true
         → (suc k < length s → behind s (suc k) x more low size no_top ≡ plain_length) → (AreOctets s → (value_from s (k + 2) x more < size) × (low + size ≤ no_top)) → Judged b
-    padded : (more n : ℕ) → method_length bit f s k b ≡ method_behind bit f s k more n false → (suc k < length s → NoNum 6 (suc k) ≡ plain_length) → Judged b
+    padded : (more n : ℕ) → method_length bit f s k b ≡ method_behind bit f s k more n false → (suc k < length s → F.refused Padding (suc k) ≡ plain_length) → Judged b
 
   module _ (b : ℕ) (e : get_or s (suc k) 0 % 2 ^ (9 - bit) ≡ b) where
     -- form i has zero bits behind its code and then `more` octets; b is `first` where the zero bits are 0
@@ -121,12 +125,12 @@ module _ (s : Octets) (bit f : ℕ) (l : 5 ≤ bit) (u : bit ≤ 7) (k : ℕ) wh
         elim (ℕ_discrete b first) [
           | yes q ↦
               clean 0 more low size (by ∙ rw (eq-eqb b first q))
-              (λ h. field_form no_top bit s (suc k) (lengths bit) (length_shares bit) are h i ok _ more size ss d 0 (omega arith) low size lowest refl (omega arith)) g
+              (λ h. sym (field_form no_top bit s (suc k) (lengths bit) (length_shares bit) are h i ok _ more size ss d 0 (omega arith) low size lowest refl (omega arith))) g
           | no q ↦
               padded more (low + value_from s (k + 2) 0 more) (by ∙ rw (ne_eqb b first q))
               (λ h.
               let m = mul-le-mul_right {m = 1} {n = b - first} (256 ^ more) (omega arith) in
-              field_padding no_top bit s (suc k) (lengths bit) (length_shares bit) are h i ok _ more size ss d (b - first) (omega arith) (omega arith) (omega arith))
+              sym (field_padding no_top bit s (suc k) (lengths bit) (length_shares bit) are h i ok _ more size ss d (b - first) (omega arith) (omega arith) (omega arith)))
         ]
 
     judged : Judged b
@@ -137,7 +141,7 @@ module _ (s : Octets) (bit f : ℕ) (l : 5 ≤ bit) (u : bit ≤ 7) (k : ℕ) wh
         let small = mod-lt (get_or s (suc k) 0) (pow_pos (9 - bit)) in
         case b (2 ^ (8 - bit))
         (λ h. clean b 0 1 (2 ^ (8 - bit)) (rw (lt-ltb _ _ h))
-        (λ i. field_form no_top bit s (suc k) (lengths bit) (length_shares bit) (lengths_are bit (omega arith) u) i 0 tt _ _ _ _ refl b (omega arith) 1 (2 ^ (8 - bit)) refl refl (omega arith)) (λ o. (h, omega arith)))
+        (λ i. sym (field_form no_top bit s (suc k) (lengths bit) (length_shares bit) (lengths_are bit (omega arith) u) i 0 tt _ _ _ _ refl b (omega arith) 1 (2 ^ (8 - bit)) refl refl (omega arith))) (λ o. (h, omega arith)))
         (λ h. case b (3 * 2 ^ (7 - bit))
         (λ g. coded 1 1 (1 + 2 ^ (8 - bit)) 256 (2 * 2 ^ (7 - bit)) (omega arith) refl (omega arith) (omega arith) refl (omega arith) (omega arith) (omega arith) (rw (le-ltb _ _ h, lt-ltb _ _ g))
         (λ o. let a = o (k + 2) in (omega arith, omega arith)))
@@ -169,7 +173,7 @@ module _ (s : Octets) (bit f : ℕ) (l : 5 ≤ bit) (u : bit ≤ 7) (k : ℕ) wh
         rw (known-first, z) (sym (div-add-mod' (get_or s (suc k) 0) (2 ^ (9 - bit))))
 
   module _ (bytes : AreOctets s) (lo : 2 ≤ f) (hi : f < 4) where
-    told : (n next : ℕ) → suc k < length s → is_read f (method_at bit s k) ≡ true → Num n (record { at = next }) ≡ plain_length → LengthRead n next
+    told : (n next : ℕ) → suc k < length s → is_read f (method_at bit s k) ≡ true → F.got n next ≡ plain_length → LengthRead n next
     told n next i q e =
         let h = few_read lo hi q in
         record {
@@ -186,14 +190,14 @@ module _ (s : Octets) (bit f : ℕ) (l : 5 ≤ bit) (u : bit ≤ 7) (k : ℕ) wh
         let few = g bytes in
         let two : suc k + 1 ≡ k + 2 = omega arith in
         rw e
-        (test_le (Told s LengthRead) (NoNum 2 k) (fault s 2 k refl kl) (k + 2 + more + n) (length s) _
-        λ t1. test (Told s LengthRead) (NoNum 8 k) (fault s 8 k refl kl) (is_read f (method_at bit s k)) _
+        (test_le (Told s LengthRead) (F.refused Truncated k) (fault s 2 k refl kl) (k + 2 + more + n) (length s) _
+        λ t1. test (Told s LengthRead) (F.refused Format k) (fault s 8 k refl kl) (is_read f (method_at bit s k)) _
         λ t2. told n (k + 2 + more) (omega arith) t2
-        (rw two at (behind_got s (suc k) x more low size no_top (value_from s (k + 2) x more) (omega arith) (rw two) few.0 (omega arith)) ∙ p (omega arith)))
+        (sym (rw two at (behind_got s (suc k) x more low size no_top (value_from s (k + 2) x more) (omega arith) (rw two) few.0 (omega arith))) ∙ p (omega arith)))
     judged_sound b kl (padded more n e p) =
         rw e
-        (test_le (Told s LengthRead) (NoNum 2 k) (fault s 2 k refl kl) (k + 2 + more + n) (length s) _
-        λ t1. test (Told s LengthRead) (NoNum 8 k) (fault s 8 k refl kl) (is_read f (method_at bit s k)) _ λ t2. fault s 6 k refl kl)
+        (test_le (Told s LengthRead) (F.refused Truncated k) (fault s 2 k refl kl) (k + 2 + more + n) (length s) _
+        λ t1. test (Told s LengthRead) (F.refused Format k) (fault s 8 k refl kl) (is_read f (method_at bit s k)) _ λ t2. fault s 6 k refl kl)
 
     pub method_sound : k ≤ length s → Told s LengthRead (method_length bit f s k (get_or s (suc k) 0 % 2 ^ (9 - bit)))
     method_sound kl = judged_sound _ kl (judged _ refl)
@@ -207,15 +211,15 @@ module _ (s : Octets) (bit f : ℕ) (l : 5 ≤ bit) (u : bit ≤ 7) (k : ℕ) wh
       let d = div-eq_of_lt-le (2 ^ (9 - bit)) lo (omega arith) in
       rw e (omega arith)
 
-  module _ (n next : ℕ) (e : plain_length ≡ Num n (record { at = next })) (h : is_read f (method_at bit s k) ≡ true) (r : next + n ≤ length s) where
-    judged_complete : (b : ℕ) → Judged b → method_length bit f s k b ≡ Num n (record { at = next })
+  module _ (n next : ℕ) (e : plain_length ≡ F.got n next) (h : is_read f (method_at bit s k) ≡ true) (r : next + n ≤ length s) where
+    judged_complete : (b : ℕ) → Judged b → method_length bit f s k b ≡ F.got n next
     unfolding method_behind
     judged_complete b (clean x more low size p g o) =
         let i = field_got no_top s (suc k) (lengths bit) bit e in
         let two : suc k + 1 ≡ k + 2 = omega arith in
         let m = rw two at (behind-told s (suc k) x more low size no_top n next (g (omega arith) ∙ e)) in
         p ∙ rw (m.0, m.1, le-leb (next + n) (length s) r, h)
-    judged_complete b (padded more m p g) = absurd (let i = field_got no_top s (suc k) (lengths bit) bit e in not_number 6 (suc k) n next (g (omega arith) ∙ e))
+    judged_complete b (padded more m p g) = absurd (let i = field_got no_top s (suc k) (lengths bit) bit e in not_number Padding (suc k) n next (g (omega arith) ∙ e))
 
-    pub method_complete : method_length bit f s k (get_or s (suc k) 0 % 2 ^ (9 - bit)) ≡ Num n (record { at = next })
+    pub method_complete : method_length bit f s k (get_or s (suc k) 0 % 2 ^ (9 - bit)) ≡ F.got n next
     method_complete = judged_complete _ (judged _ refl)

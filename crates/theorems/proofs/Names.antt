@@ -15,8 +15,8 @@ use Rattle.format.specs.Events.{Name, name_map, How, NameHow, in_parts, by_numbe
 use Rattle.format.specs.Tables.{PREFIX, NAMESPACE_NAME, LOCAL_NAME, Triple, Vocabulary, strings, names, adding_name, holds_name, Entry, Version}
 use Rattle.format.specs.Strings.{bit, Identifying, Optional}
 use Rattle.format.specs.Names.{has, NameLayout, of_element, of_attribute, Named, in_parts_lem, by_number_lem, Declared, declared}
-use Rattle.fields.specs.declared.Cursor.{Cursor}
-use Rattle.fields.specs.declared.Number.TheVariants.{Got as Num}
+use Rattle.std.specs.Prelude.{Ok as Num}
+use Rattle.fields.specs.declared.Read.{Read}
 use Rattle.fields.specs.Fields.{share_of, field_at}
 use Rattle.fields.proofs.Laws.{rooms_in}
 use Rattle.fields.proofs.Forms.{rooms, Ordered}
@@ -186,7 +186,7 @@ module _ (ver : Version) (s : Octets) where
 
   -- o is the name's part of its first octet
   pub data NameHit (q : NameLayout) (lead k : ℕ) (v : Vocabulary Located) (x : Name Octets) (h : NameHow) (os : Octets) (w : Vocabulary Octets) (p : List Located) : Type 0 where
-    hit_numbered : (o : ℕ) → get_or s k 0 ≡ lead + o → o < rooms q.number_forms → (n : ℕ) (c : Cursor) → field_at q.number_forms top (name_bit q.table) s k ≡ Num n c
+    hit_numbered : (o : ℕ) → get_or s k 0 ≡ lead + o → o < rooms q.number_forms → (r : Read ℕ) → field_at q.number_forms top (name_bit q.table) s k ≡ Num r
         → Hit s (NameQ x h p) (k + length os) w (numbered_at ver q s k v) → NameHit q lead k v x h os w p
     hit_parts : (o : ℕ) → get_or s k 0 ≡ lead + o → q.in_parts_bits ≤ o → o < q.in_parts_bits + 4 → lone_prefix o ≡ false
         → Hit s (NameQ x h p) (k + length os) w (parts_at ver q s o k v) → NameHit q lead k v x h os w p
@@ -229,7 +229,7 @@ module _ (ver : Version) (s : Octets) where
       let here = rw (names-map (octets_of s) v q.table) at en in
       let made = entry_made here in
       let z : suc j - 1 ≡ j = omega arith in (
-        hit_numbered (get_or s k 0 - lead) (omega arith) (omega arith) (suc j) _ n
+        hit_numbered (get_or s k 0 - lead) (omega arith) (omega arith) _ n
             (rw (n, le-leb (suc j) (length (names v q.table)) (omega arith))
             (record {
               b = record { name = name_of v empty (get_or (names v q.table) (suc j - 1) no_triple); how = by_number (suc j) };

@@ -21,8 +21,11 @@ use Rattle.format.specs.Document.{aligned, beginning}
 use Rattle.format.specs.Head.{is_identifying}
 use Rattle.format.specs.declared.StringForm.{StringForm}
 use Rattle.format.specs.declared.StringForm.TheVariants.{Utf8, Utf16}
-use Rattle.fields.specs.declared.Number.{Number}
-use Rattle.fields.specs.declared.Number.TheVariants.{Got as Num, Refused as NoNum}
+use Rattle.std.specs.Prelude.{Result as Either, Ok as Num, Err as NoNum}
+use Rattle.format.specs.declared.refusals.Fault.{Fault as NumFault}
+use Rattle.format.specs.declared.refusals.Refusal.TheVariants.{Truncated, Padding, Format}
+use Rattle.fields.specs.declared.Read.{Read}
+use Rattle.fields.specs.Fields as F
 use Rattle.fields.specs.Fields.{field_at, no_top}
 use Rattle.fields.proofs.Bounds.{field_got}
 use Rattle.tables.specs.Located.{Located, empty, stretch, form_as, octets_of}
@@ -60,22 +63,22 @@ module _ {B C : Type 0} (Q : C → Vocabulary Located → Type 0) where
   then_did R (refused n p) f r h = tt
 
 -- ---- a number is from 1
-abbrev Some : Number → Type 0
-Some (Num n c) = 1 ≤ n
-Some (NoNum n p) = Unit {0}
+abbrev Some : Either (Read ℕ) NumFault → Type 0
+Some (Num r) = 1 ≤ r.value
+Some (NoNum f) = Unit {0}
 
 module _ (s : Octets) where
   field_some : (fs : List Form) (max bit k : ℕ) → Some (field_at fs max bit s k)
   field_some fs max bit k = go (field_at fs max bit s k) refl
     where
-      go : (a : Number) → field_at fs max bit s k ≡ a → Some a
-      go (Num n c) e = (field_got max s k fs bit e).0
-      go (NoNum n p) e = tt
+      go : (a : Either (Read ℕ) NumFault) → field_at fs max bit s k ≡ a → Some a
+      go (Num r) e = (field_got max s k fs bit e).0
+      go (NoNum f) e = tt
 
   behind_some : (bit f k others n : ℕ) (clean : Bool) → 1 ≤ n → Some (method_behind bit f s k others n clean)
   unfolding method_behind
   behind_some bit f k others n clean h =
-      test Some (NoNum 2 k) tt (leb (k + 2 + others + n) (length s)) _ λ t1. test Some (NoNum 8 k) tt (is_read f (method_at bit s k)) _ λ t2. test Some (NoNum 6 k) tt clean _ λ t3. h
+      test Some (F.refused Truncated k) tt (leb (k + 2 + others + n) (length s)) _ λ t1. test Some (F.refused Format k) tt (is_read f (method_at bit s k)) _ λ t2. test Some (F.refused Padding k) tt clean _ λ t3. h
 
   method_some : (bit f k b : ℕ) → Some (method_length bit f s k b)
   unfolding method_length
@@ -84,10 +87,13 @@ module _ (s : Octets) where
       λ e. either Some (ltb b (3 * 2 ^ (7 - bit))) _ _ (λ e. behind_some bit f k 1 _ _ (omega arith)) (λ e. behind_some bit f k 4 _ _ (omega arith))
 
 module _ (s : Octets) {C : Type 0} (Q : C → Vocabulary Located → Type 0) where
-  number_did : (a : Number) → Some a → (f : ℕ → ℕ → Got C) → ((n next : ℕ) → Did Q (f (suc n) next)) → Did Q (number a f)
-  number_did (Num zero c) h f g = absurd (omega arith)
-  number_did (Num (suc n) c) h f g = g n c.at
-  number_did (NoNum n p) h f g = tt
+  number_did : (a : Either (Read ℕ) NumFault) → Some a → (f : ℕ → ℕ → Got C) → ((n next : ℕ) → Did Q (f (suc n) next)) → Did Q (number a f)
+  number_did (Num r) h f g = from_one r.value h
+    where
+      from_one : (n : ℕ) → 1 ≤ n → Did Q (f n r.next)
+      from_one zero h = absurd (omega arith)
+      from_one (suc n) h = g n r.next
+  number_did (NoNum e) h f g = tt
 
   spelling_did : (form : StringForm) (k next n : ℕ) (a : Got C) → (next + n ≤ length s → Did Q a) → Did Q (spelling form s k next n a)
   unfolding spelling
@@ -125,7 +131,7 @@ module _ (ver : Version) (s : Octets) where
 
   -- in a table of other strings than identifying ones
   module _ (t : StringTable) (other : is_identifying t ≡ false) (k : ℕ) (v : Vocabulary Located) where
-    formed_did : (form : StringForm) (added : Bool) (a : Number) → Some a → Did (StringDid t v) (formed_at ver form s t k added a v)
+    formed_did : (form : StringForm) (added : Bool) (a : Either (Read ℕ) NumFault) → Some a → Did (StringDid t v) (formed_at ver form s t k added a v)
     unfolding formed_at
     formed_did form added a h =
         number_did s (StringDid t v) a h _

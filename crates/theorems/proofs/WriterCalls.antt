@@ -1,20 +1,22 @@
 -- DEMANDS 1 AND 2 OF THE WRITER'S CODE. The contract of `write_rows::write` equates what a call answers and leaves with `write_of`, that of `lomphachit_write`
 -- with `write_words`, which is `write_of` in words: so what it accepts is written by the rules, from the very tables and records that were given, and reading it gives back the same events and tables, whatever stood in the room.
-use Prim.Native.Nat.{ℕ, zero, suc, ◌+◌, ◌*◌, ◌^◌, ◌≤◌, min}
+use Prim.Native.Nat.{ℕ, zero, suc, ◌+◌, ◌*◌, ◌^◌, ◌≤◌, ◌<◌, min}
 use mathlib.Core.Path.{◌≡◌, refl, sym, ap, ◌∙◌, subst}
 use mathlib.Core.Bool.{Bool, true, false, ◌&&◌, ◌||◌}
 use mathlib.Core.List.{List, [], ◌∷◌, ◌++◌, map}
 use native.Mathlib.Omega.{arith}
 use lib.ListN.{length, length-map}
 use lib.Dec.{eqb, leb}
+use Rattle.std.specs.Prelude as Std
 use Rattle.format.specs.Octets.{Octets, Halves, Words}
+use Rattle.format.specs.declared.refusals.Fault.{Fault as CallFault}
 use Rattle.format.specs.Numbers.{pick}
 use Rattle.format.specs.Events.{Item, ◌by◌}
 use Rattle.format.specs.Tables.{Version}
 use Rattle.format.specs.Items.{State}
 use Rattle.format.specs.Document.{pad, beginning, Document}
-use Rattle.tables.specs.declared.Counts.{Counts}
 use Rattle.tables.specs.Counts.{table_words}
+use Rattle.tables.specs.Told.{Told, told_accepted, whole_word}
 use Rattle.tables.specs.Located.{Located, plain, plain_state}
 use Rattle.events.specs.declared.Event.{Event}
 use Rattle.events.specs.Records.{record_of, unplaced}
@@ -26,14 +28,14 @@ use Rattle.write_head.specs.Head.{is_none, tables_of, well_given, text_given, ne
 use Rattle.write_items.specs.Events.{well_made, event_of, is_content, goes_on, all_text}
 use Rattle.write_items.specs.Items.{WroteItem, write_item}
 use Rattle.write_items.specs.Steps.{announced, opens, settled, fits, halves_of, judge, joined}
-use Rattle.writer.specs.declared.Answer.{Answer}
-use Rattle.writer.specs.declared.Answer.TheVariants.{Accepted, Refused}
+use Rattle.writer.specs.declared.Accepted.{Accepted}
 use Rattle.writer.specs.Writing.{Result, written, refusal, plus, finish, run, Outcome, Leaves, accepting, outcome, writing, write_of}
 use Rattle.theorems.specs.Bounded.{Bounded}
 use Rattle.theorems.specs.Verdicts.{head_of}
 use Rattle.theorems.proofs.Document as Whole
 use Rattle.theorems.proofs.Demands.{written_by_the_rules, the_events_given}
-use Rattle.writer.specs.Words.{answer_word, leaving, nothing, in_words, write_words, measured, measure_words}
+use Rattle.writer.specs.Words.{leaving, nothing, in_words, write_words, measured, measure_words}
+use Rattle.theorems.proofs.Alike.{write_alike}
 use Rattle.theorems.proofs.Fits.{accepted_sized}
 use Rattle.theorems.proofs.Turns.{by_head}
 use Rattle.theorems.proofs.Asked.{by_asked}
@@ -47,45 +49,6 @@ pub record Wrote (ver : Version) (g : Given) (text : Octets) (es : List Event) (
   pub given : map (λ (i : Item Located). record_of i.event) items ≡ map unplaced es
   pub writes : Document ver (head_of ver text g) (map (plain text) items) (plain_state text last) octets
   pub fits : length octets ≤ room
-
-module _ (ver : Version) (ok : Bounded ver) (text : Octets) (room : ℕ) (es : List Event) where
-  from_result : length text ≤ ver.octets → (g : Given) (r : Result) → writing ver g text room es ≡ r → (n : ℕ) (c : Counts) → (outcome ver (head_octets ver text g) r room).answer ≡ Accepted n c
-      → Wrote ver g text es room (outcome ver (head_octets ver text g) r room)
-  from_result short g (written items hs z) e n c q =
-      let w = written_by_the_rules ver text room g es items hs z e ok short in
-      record { items = items; last = z; octets = head_octets ver text g ++ joined hs; is = refl; given = the_events_given ver text room g es items hs z e; writes = w.0; fits = w.1 }
-  from_result short g (refusal k p) e n c q = absurd (let z : ◌≡◌ {A = ℕ} 0 1 = cc in omega arith)
-
-  -- 17. WRITE ACCEPTS only what the rules write, from the head and the records given.
-  pub write_accepts : (given : Words) (table n : ℕ) (c : Counts) → (write_of ver given es text room table).answer ≡ Accepted n c → Wrote ver (given_of given) text es room (write_of ver given es text room table)
-  write_accepts given table n c =
-      by_asked ver given es text room table (λ (o : Outcome). o.answer ≡ Accepted n c → Wrote ver (given_of given) text es room o)
-      (λ short right e. from_result short (given_of given) (writing ver (given_of given) text room es) refl n c)
-      (λ l. never) (λ l m. never) (λ l m e. never)
-    where
-      never : {X : Type 0} {k p : ℕ} → Refused k p ≡ Accepted n c → X
-      never e = absurd (let z : ◌≡◌ {A = ℕ} 0 1 = cc in omega arith)
-
--- What reading octets leaves: the records of events whose plain forms are these items', blank records behind them, and tables that are these, as octets.
-pub record ReadBack (ver : Version) (s : Octets) (records : ℕ) (items : List (Item Octets)) (z : State Octets) : Type 0 where
-  pub events : List EventRead
-  pub last : State Located
-  pub is : read_of ver s records table_words ≡ reading (map record_read events) last.tables records
-  pub same : map (plain s) (items_read events) ≡ items
-  pub tables : plain_state s last ≡ z
-
--- 18. READ BACK: what a call wrote is read, with a record for each event, and gives the same events and tables.
-pub read_back : (ver : Version) (g : Given) (text : Octets) (room : ℕ) (es : List Event) (o : Outcome) (w : Wrote ver g text es room o) (records : ℕ) → length es ≤ records
-    → ReadBack ver w.octets records (map (plain text) w.items) (plain_state text w.last)
-unfolding read_of
-read_back ver g text room es o w records h =
-    let l = length-map w.items (λ (i : Item Located). record_of i.event) in
-    let k = length-map w.items (plain text) in
-    let n = ap length w.given in
-    let m = length-map es unplaced in
-    let a = Whole.accepts ver w.octets (head_of ver text g) (map (plain text) w.items) (plain_state text w.last) w.writes records (omega arith) in
-    let y = accepted_sized ver w.octets records a.events a.last a.reads in
-    record { events = a.events; last = a.last.state; is = rw (y, a.reads); same = a.are; tables = a.end_is }
 
 -- 19. REFUSED: a refusal is one of the requirements' numbers for a writer, at an event of the list or its end; 11 is the head's alone.
 abbrev pub Numbered : (number place : ℕ) → Type 0
@@ -168,32 +131,68 @@ module _ (ver : Version) (text : Octets) (room : ℕ) (g : Given) (es : List Eve
       let v = beginning (tables_of ver g) in
       subst Found e (by_head ver text room g es Found (λ z. ran (run ver text room at v 0 es) (run_faulty ver text room es at v 0)) (λ k q. (head_numbered ver text g room k q, omega arith)))
 
+module _ (ver : Version) (ok : Bounded ver) (text : Octets) (room : ℕ) (es : List Event) where
+  from_result : length text ≤ ver.octets → (g : Given) (r : Result) → writing ver g text room es ≡ r → (outcome ver (head_octets ver text g) r room).told.number ≡ 0
+      → Wrote ver g text es room (outcome ver (head_octets ver text g) r room)
+  from_result short g (written items hs z) e q =
+      let w = written_by_the_rules ver text room g es items hs z e ok short in
+      record { items = items; last = z; octets = head_octets ver text g ++ joined hs; is = refl; given = the_events_given ver text room g es items hs z e; writes = w.0; fits = w.1 }
+  from_result short g (refusal k p) e q = let f = (write_refused ver text room g es k p e).0 in absurd (omega arith)
+
+  pub by_number : (given : Words) (table : ℕ) → (write_of ver given es text room table).told.number ≡ 0 → Wrote ver (given_of given) text es room (write_of ver given es text room table)
+  by_number given table =
+      by_asked ver given es text room table (λ (o : Outcome). o.told.number ≡ 0 → Wrote ver (given_of given) text es room o)
+      (λ short right e. from_result short (given_of given) (writing ver (given_of given) text room es) refl)
+      (λ l e. absurd (omega arith)) (λ l m e. absurd (omega arith)) (λ l m g e. absurd (omega arith))
+
+  -- 17. WRITE ACCEPTS only what the rules write, from the head and the records given.
+  pub write_accepts : (given : Words) (table n : ℕ) (counts : Words) → (write_of ver given es text room table).told ≡ told_accepted n counts
+      → Wrote ver (given_of given) text es room (write_of ver given es text room table)
+  write_accepts given table n counts e = by_number given table (ap (λ (t : Told). t.number) e)
+
+-- What reading octets leaves: the records of events whose plain forms are these items', blank records behind them, and tables that are these, as octets.
+pub record ReadBack (ver : Version) (s : Octets) (records : ℕ) (items : List (Item Octets)) (z : State Octets) : Type 0 where
+  pub events : List EventRead
+  pub last : State Located
+  pub is : read_of ver s records table_words ≡ reading (map record_read events) last.tables records
+  pub same : map (plain s) (items_read events) ≡ items
+  pub tables : plain_state s last ≡ z
+
+-- 18. READ BACK: what a call wrote is read, with a record for each event, and gives the same events and tables.
+pub read_back : (ver : Version) (g : Given) (text : Octets) (room : ℕ) (es : List Event) (o : Outcome) (w : Wrote ver g text es room o) (records : ℕ) → length es ≤ records
+    → ReadBack ver w.octets records (map (plain text) w.items) (plain_state text w.last)
+unfolding read_of
+read_back ver g text room es o w records h =
+    let l = length-map w.items (λ (i : Item Located). record_of i.event) in
+    let k = length-map w.items (plain text) in
+    let n = ap length w.given in
+    let m = length-map es unplaced in
+    let a = Whole.accepts ver w.octets (head_of ver text g) (map (plain text) w.items) (plain_state text w.last) w.writes records (omega arith) in
+    let y = accepted_sized ver w.octets records a.events a.last a.reads in
+    record { events = a.events; last = a.last.state; is = rw (y, a.reads); same = a.are; tables = a.end_is }
+
 -- 20. WRITE FROM WORDS: what is accepted is left as the words of what `write` leaves, from the head and the records of the words (17).
-refused_small : (ver : Version) (given records : Words) (text : Octets) (r t : ℕ) (k p : ℕ) → (write_of ver given (records_of records) text r t).answer ≡ Refused k p → (1 ≤ k) × (k ≤ 16)
-refused_small ver given records text r t k p =
-    by_asked ver given (records_of records) text r t (λ (o : Outcome). o.answer ≡ Refused k p → (1 ≤ k) × (k ≤ 16))
+small : (ver : Version) (given records : Words) (text : Octets) (r t : ℕ) → (write_of ver given (records_of records) text r t).told.number < 32
+small ver given records text r t =
+    by_asked ver given (records_of records) text r t (λ (o : Outcome). o.told.number < 32)
     (λ short right e. from (writing ver (given_of given) text r (records_of records)) refl)
-    (λ l e. let ek : 1 ≡ k = cc in omega arith) (λ l m e. let ek : 14 ≡ k = cc in omega arith) (λ l m g e. let ek : 16 ≡ k = cc in omega arith)
+    (λ l. omega arith) (λ l m. omega arith) (λ l m g. omega arith)
   where
-    from : (a : Result) → writing ver (given_of given) text r (records_of records) ≡ a → (outcome ver (head_octets ver text (given_of given)) a r).answer ≡ Refused k p → (1 ≤ k) × (k ≤ 16)
-    from (written items hs z) q e = absurd (let y : ◌≡◌ {A = ℕ} 0 1 = cc in omega arith)
-    from (refusal n place) q e =
-        let f = (write_refused ver text r (given_of given) (records_of records) n place q).0 in
-        let ek : n ≡ k = cc in
-        omega arith
+    from : (a : Result) → writing ver (given_of given) text r (records_of records) ≡ a → (outcome ver (head_octets ver text (given_of given)) a r).told.number < 32
+    from (written items hs z) q = omega arith
+    from (refusal n place) q = let f = (write_refused ver text r (given_of given) (records_of records) n place q).0 in omega arith
 
 module _ (ver : Version) (ok : Bounded ver) (given records : Words) (text : Octets) (r t : ℕ) where
   abbrev left : Outcome
   left = write_of ver given (records_of records) text r t
 
-  by_answer : (n : ℕ) (a : Answer) → left.answer ≡ a → answer_word a ≡ n * 2 ^ 32 → Wrote ver (given_of given) text (records_of records) r left
-  by_answer n (Accepted m c) e q = write_accepts ver ok text r (records_of records) given t m c e
-  by_answer n (Refused k p) e q = let f = refused_small ver given records text r t k p e in absurd (omega arith)
+  by_answer : (n : ℕ) → whole_word left.told ≡ n * 2 ^ 32 → Wrote ver (given_of given) text (records_of records) r left
+  by_answer n e = let l = small ver given records text r t in by_number ver ok text r (records_of records) given t (omega arith)
 
   by_words_lem : (c n : ℕ) (b d : Bool) → (pick b (pick d (in_words left) (nothing 14 r t c)) (nothing 1 r t c)).answer ≡ n * 2 ^ 32
       → Wrote ver (given_of given) text (records_of records) r left × (pick b (pick d (in_words left) (nothing 14 r t c)) (nothing 1 r t c) ≡ in_words left)
   unfolding in_words
-  by_words_lem c n true true e = (by_answer n left.answer refl e, refl)
+  by_words_lem c n true true e = (by_answer n e, refl)
   by_words_lem c n true false e = absurd (omega arith)
   by_words_lem c n false d e = absurd (omega arith)
 
@@ -202,10 +201,10 @@ module _ (ver : Version) (ok : Bounded ver) (given records : Words) (text : Octe
   words-written c n e = by_words_lem c n (leb (length text) ver.octets) (eqb c 10) e
 
 -- 21. DEMAND 1: what a call answers and leaves depends on the words for the head, the records and the text, and on how much room is lent, but not on what stood in it.
-module _ (ver : Version) (given : Words) (es : List Event) (text o p : Octets) (t u : Words) (a b : Answer) (o' p' : Octets) (t' u' : Words) where
+module _ (ver : Version) (given : Words) (es : List Event) (text o p : Octets) (t u : Words) (a b : Std.Result Accepted CallFault) (o' p' : Octets) (t' u' : Words) where
   pub write_whatever_stood : length o ≡ length p → length t ≡ length u → Leaves a o' t' (write_of ver given es text (length o) (length t)) → Leaves b p' u' (write_of ver given es text (length p) (length u))
       → (a ≡ b) × (o' ≡ p') × (t' ≡ u')
-  write_whatever_stood l m x y = let y' = rw (← l, ← m) at y in (x.0 ∙ sym y'.0, x.2 ∙ sym y'.2, x.3 ∙ sym y'.3)
+  write_whatever_stood l m x y = let y' = rw (← l, ← m) at y in (write_alike a b (x.0 ∙ sym y'.0), x.1 ∙ sym y'.1, x.2 ∙ sym y'.2)
 
 --     The same of writing from words.
 pub written_whatever_stood : (ver : Version) (given records : Words) (text o p : Octets) (t u c d : Words) (a b : ℕ) (o' p' : Octets) (t' u' c' d' : Words) → length o ≡ length p → length t ≡ length u → length c ≡ length d

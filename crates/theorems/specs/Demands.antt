@@ -1,8 +1,9 @@
 -- THE THREE DEMANDS, as statements of what the calls answer and leave: `Demand1`, `Demand2`, `Demand3` at the end of this file, and before them what each call owes. The
 -- contracts equate what a call answers and leaves with `check_of`, `read_of`, `read_words`, `write_of`, `write_words` and `measure_words`. That the demands hold of these is proofs/Theorems.
-use Rattle.std.specs.Prelude.{ℕ, ◌+◌, ◌-◌, ◌*◌, ◌/◌, ◌%◌, ◌^◌, ◌≤◌, ◌<◌, ◌≡◌, true, ◌↔◌, List, [], ◌∷◌, ◌++◌, map, length, get_or, take, replicate}
+use Rattle.std.specs.Prelude.{ℕ, ◌+◌, ◌-◌, ◌*◌, ◌/◌, ◌%◌, ◌^◌, ◌≤◌, ◌<◌, ◌≡◌, true, ◌↔◌, List, [], ◌∷◌, ◌++◌, map, length, get_or, take, replicate, Result}
 use Rattle.format.specs.Octets.{Octets, Halves, Words, AreOctets}
 use Rattle.format.specs.Refusals.{SIZE, TEXT, REPEAT, FULL, DEPTH, ROOM, EVENT}
+use Rattle.format.specs.declared.refusals.Fault.{Fault as CallFault}
 use Rattle.format.specs.Numbers.{longest}
 use Rattle.format.specs.Events as E
 use Rattle.format.specs.Events.{Item, IsDocument, strings_of, deepest}
@@ -21,12 +22,12 @@ use Rattle.events.specs.Records.{blank, record_of, unplaced}
 use Rattle.events.specs.WellMade.{WellMade}
 use Rattle.events.specs.Words.{record_words, row_words}
 use Rattle.events.specs.FromWords.{records_of, AllKinded}
-use Rattle.reader.specs.declared.Answer as ReadAnswer
+use Rattle.reader.specs.declared.Accepted as Reader
 use Rattle.reader.specs.Reading as Read
 use Rattle.reader.specs.Words as ReadWords
 use Rattle.write_head.specs.Given.{Given, is_given, given_of}
 use Rattle.write_head.specs.Head.{tables_of, head_octets}
-use Rattle.writer.specs.declared.Answer as WriteAnswer
+use Rattle.writer.specs.declared.Accepted as Writer
 use Rattle.write_items.specs.Steps.{joined}
 use Rattle.writer.specs.Writing as Write
 use Rattle.writer.specs.Words as WriteWords
@@ -229,12 +230,12 @@ pub record Demand1 (ver : Version) : Type 0 where
   pub write : (given : Words) (es : List Event) (text : Octets) (room table : ℕ) → WriteAnswers es room table (Write.write_of ver given es text room table)
   pub write_words_lem : (given records : Words) (text : Octets) (r t c : ℕ) → WriteWordsAnswer (records_of records) r t c (WriteWords.write_words ver given records text r t c)
   pub measure_words : (given records : Words) (text : Octets) (t c : ℕ) → MeasureWordsAnswer (records_of records) t c (WriteWords.measure_words ver given records text t c)
-  pub read_again : (s : Octets) (e f : List Event) (t u : Words) (a b : ReadAnswer.Answer) (e' f' : List Event) (t' u' : Words) → length e ≡ length f → length t ≡ length u
+  pub read_again : (s : Octets) (e f : List Event) (t u : Words) (a b : Result Reader.Accepted CallFault) (e' f' : List Event) (t' u' : Words) → length e ≡ length f → length t ≡ length u
       → Read.Leaves a e' t' (Read.read_of ver s (length e) (length t)) → Read.Leaves b f' u' (Read.read_of ver s (length f) (length u)) → (a ≡ b) × (e' ≡ f') × (t' ≡ u')
   pub read-words_again : (s : Octets) (r q t u c d : Words) (a b : ℕ) (r' q' t' u' c' d' : Words) → length r ≡ length q → length t ≡ length u → length c ≡ length d
       → ReadWords.leaving a r' t' c' ≡ ReadWords.read_words ver s (length r) (length t) (length c) → ReadWords.leaving b q' u' d' ≡ ReadWords.read_words ver s (length q) (length u) (length d)
       → ReadWords.leaving a r' t' c' ≡ ReadWords.leaving b q' u' d'
-  pub write_again : (given : Words) (es : List Event) (text o p : Octets) (t u : Words) (a b : WriteAnswer.Answer) (o' p' : Octets) (t' u' : Words) → length o ≡ length p → length t ≡ length u
+  pub write_again : (given : Words) (es : List Event) (text o p : Octets) (t u : Words) (a b : Result Writer.Accepted CallFault) (o' p' : Octets) (t' u' : Words) → length o ≡ length p → length t ≡ length u
       → Write.Leaves a o' t' (Write.write_of ver given es text (length o) (length t)) → Write.Leaves b p' u' (Write.write_of ver given es text (length p) (length u)) → (a ≡ b) × (o' ≡ p') × (t' ≡ u')
   pub write_words_again : (given records : Words) (text o p : Octets) (t u c d : Words) (a b : ℕ) (o' p' : Octets) (t' u' c' d' : Words) → length o ≡ length p → length t ≡ length u → length c ≡ length d
       → WriteWords.leaving a o' t' c' ≡ WriteWords.write_words ver given records text (length o) (length t) (length c)

@@ -1,8 +1,11 @@
 -- Given entries added to the tables: a law for each way out of the functions that add them, on plain values.
 -- Assumes nothing.
 use mathlib.Core.Path.{◌≡◌, refl, sym, ◌∙◌}
-use mathlib.Core.Bool.{◌||◌}
+use mathlib.Core.Bool.{Bool, false, ◌||◌}
 use mathlib.Core.List.{List, map}
+use Rattle.std.proofs.Common.{Result}
+use Rattle.std.specs.Result.{IsErrAnd}
+use Rattle.std.proofs.lemmas.Result.{err_from_is_err_and}
 use Prim.Native.Nat.{ℕ, ◌+◌, ◌*◌, ◌≤◌, ◌<◌}
 use native.Mathlib.Omega.{arith}
 use native.Mathlib.Numerals.{add-one}
@@ -14,6 +17,8 @@ use Rattle.format.specs.Tables.{Triple, strings, adding, adding_name}
 use Rattle.format.specs.declared.StringForm.{StringForm}
 use Rattle.format.specs.declared.StringForm.TheVariants.{Utf8}
 use Rattle.format.specs.Forms.{form_number, form_of}
+use Rattle.format.specs.declared.refusals.Refusal.{Refusal}
+use Rattle.format.specs.declared.refusals.Refusal.TheVariants.{Repeat}
 use Rattle.tables.specs.Located.{stretch, octets_of}
 use Rattle.tables.specs.Rows.{table_of, string_at, triple_at, entries}
 use Rattle.tables.specs.Search.{number_in, number_of_triple}
@@ -31,7 +36,7 @@ use Rattle.write_names.proofs.Order.{triples_are, order_string, order_name}
 use Rattle.write_names.proofs.Stretches.{tagged}
 use Rattle.write_names.proofs.StringLaws.{held_is, enter_ready}
 use Rattle.write_head.specs.Given.{rows_of}
-use Rattle.write_head.specs.RowContracts.{form_given, located, start_count, IsRow, new_in, add_row, add_rows, add_tables, Grown}
+use Rattle.write_head.specs.RowContracts.{form_given, located, start_count, IsRow, new_in, add_row, add_rows, add_tables, Grown, Tells}
 use Rattle.write_head.proofs.RowLaws.{or_true, row_utf8, row_sound}
 use Rattle.write_head.proofs.ListLaws.{and_true, or_false}
 
@@ -82,13 +87,13 @@ module _ (text g c w x : List ℕ) (t at : ℕ) (order : InOrder text c w x) (sm
     number_is : k ≡ number_in (map (octets_of text) (strings (tables_in c w) (table_of t))) (octets_of text (located_of string))
     number_is = held ∙ held_is text (table_of t) (tables_in c w) string (tagged string f _ _ refl)
 
-    pub row_ready : get_or c t 0 < 256 → (h n p m : ℕ) → p ≡ get_or g (at + 1) 0 → m ≡ get_or g (at + 2) 0 → n ≡ form_number f → (h ≡ bucket (octets_of text (stretch f p m))) × (h < 128)
+    pub row_ready : get_or c t 0 < 256 → (h n : ℕ) → n ≡ form_number f → (h ≡ bucket (octets_of text (stretch f (get_or g (at + 1) 0) (get_or g (at + 2) 0)))) × (h < 128)
         → (length w ≡ 7680) × (length x ≡ slots) × (t < 8) × (get_or c t 0 < 256) × (1 ≤ get_or g (at + 2) 0) × (get_or g (at + 1) 0 + get_or g (at + 2) 0 ≤ length text) × (t < 5 → n ≡ 0)
         × (k ≡ number_in (map (octets_of text) (entries (string_at (table_of t) w) (768 * t) (get_or c t 0))) (octets_of text (stretch (form_of n) (get_or g (at + 1) 0) (get_or g (at + 2) 0))))
         × (h ≡ bucket (octets_of text (stretch (form_of n) (get_or g (at + 1) 0) (get_or g (at + 2) 0))))
         × (h < 128)
-    row_ready room h n p m ep em en b =
-        enter_ready text c w x t f (get_or g (at + 1) 0) (get_or g (at + 2) 0) order small (row_utf8 text g t at row f e) room row.0 row.1 k n h number_is en (rw (ep, em) at b.0, b.1)
+    row_ready room h n en b =
+        enter_ready text c w x t f (get_or g (at + 1) 0) (get_or g (at + 2) 0) order small (row_utf8 text g t at row f e) room row.0 row.1 k n h number_is en b
 
     told : new_in text g (tables_in c w) t at ≡ (leb 5 t || eqb k 0)
     unfolding new_in
@@ -144,3 +149,10 @@ module _ (text g : List ℕ) (t : ℕ) {c w x c' w' x' : List ℕ} where
         tables = b.tables ∙ rw (add-one t, a.tables);
         fresh = λ j h. b.elsewhere j (λ e. omega arith) ∙ a.fresh j (omega arith);
       }
+
+-- ---- what adding tells
+pub tells_held : (new : Bool) (r : Result (Unit {0}) Refusal) (f : Refusal) → IsErrAnd r (λ e. e ≡ f) → f ≡ Repeat → new ≡ false → Tells new r
+tells_held new r f passed is held = let p = err_from_is_err_and r passed in rw (p.1, p.2) (held, is)
+
+pub tells_same : (a b : Bool) (r : Result (Unit {0}) Refusal) → a ≡ b → Tells a r → Tells b r
+tells_same a b r e h = rw (← e) h

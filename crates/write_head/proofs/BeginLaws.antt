@@ -3,6 +3,9 @@
 use mathlib.Core.Path.{◌≡◌, refl, sym, ap, ◌∙◌}
 use mathlib.Core.Bool.{true, false, ◌||◌}
 use mathlib.Core.List.{List, [], ◌∷◌}
+use Rattle.std.proofs.Common.{Result, Err}
+use Rattle.std.specs.Result.{IsErrAnd}
+use Rattle.std.proofs.lemmas.Result.{err_from_is_err_and}
 use Prim.Native.Nat.{ℕ, zero, suc, ◌+◌, ◌*◌, ◌≤◌, ◌<◌, min}
 use native.Mathlib.Omega.{arith}
 use borrow.Author.Tests.{le-ltb, eq-eqb, ne_eqb, le-leb, lt-leb, leb-true, eqb-true}
@@ -12,6 +15,9 @@ use lib.Seq.{sets, length-sets}
 use Rattle.format.specs.Numbers.{pick, from_bits}
 use Rattle.format.specs.Tables.{no_entries, followed_by, vocabulary_map, starting, strings, names, holds, holds_name, link}
 use Rattle.format.specs.Head.{some?, is_identifying, ten_tables, size_of, presence}
+use Rattle.format.specs.Refusals.{refusal_number}
+use Rattle.format.specs.declared.refusals.Refusal.{Refusal}
+use Rattle.format.specs.declared.refusals.Refusal.TheVariants.{Text, Repeat, Full, Event}
 use Rattle.fields.specs.PutContracts.{Puts}
 use Rattle.tables.specs.Located.{start}
 use Rattle.tables.specs.Rows.{entries}
@@ -25,8 +31,8 @@ use Rattle.write_names.specs.Promises.{tables_in, InOrder}
 use Rattle.write_names.proofs.Order.{order_start}
 use Rattle.write_head.specs.Given.{entries_before, is_given, given_of}
 use Rattle.write_head.specs.Head.{every, distinct, distinct_names, in_strings, in_names, is_none, octets_before, head_for, well_given, text_given, new_given, few_given, tables_of, head_octets, fault_of_head, fault_of_given}
-use Rattle.write_head.specs.Promises.{Opened}
-use Rattle.write_head.specs.RowContracts.{below, Laid, start_count, keeps, few_table, Few, Right, presence_of, head_of, add_tables, Judged}
+use Rattle.write_head.specs.Promises.{Opened, Opens}
+use Rattle.write_head.specs.RowContracts.{below, Laid, start_count, keeps, few_table, Few, Right, Texts, Tells, presence_of, head_of, add_tables, Passed, Judged}
 use Rattle.write_head.proofs.RowLaws.{given_laid}
 use Rattle.write_head.proofs.GivenLaws.{right_is, text_is, new_is, few_is}
 use Rattle.write_head.proofs.HeadLaws.{none_is, added_is, head_is}
@@ -39,10 +45,6 @@ cleared s {o} {out} e put =
 
 -- ---- the judgement
 module _ (text g : List ℕ) where
-  module _ (n : ℕ) (all : (room : ℕ) → fault_of_head link text (given_of g) room ≡ n) (some : n ≡ 0 → ⊥) (high : n ≤ 16) where
-    refuses : Judged text g n
-    refuses = record { refused = λ ne room. all room; high = high; right = λ e. absurd (some e); texts = λ e. absurd (some e); few = λ e. absurd (some e); repeats = λ e. absurd (some e); left = λ e. absurd (some e) }
-
   fault_event : (room : ℕ) → false ≡ keeps 16 text g → fault_of_head link text (given_of g) room ≡ 16
   unfolding fault_of_head
   fault_event room e = rw (← right_is g text, ← e)
@@ -66,30 +68,28 @@ module _ (text g : List ℕ) where
         unfolding fault_of_head link
         fault_room few room = rw (← right_is g text, right, ← text_is g text right, all_text, ← new_is g text right, all_new, ← few_is g text, few)
 
-  pub not_right : false ≡ keeps 16 text g → Judged text g 16
-  not_right e = refuses 16 (λ room. fault_event room e) (λ z. omega arith) (omega arith)
+  pub not_right : keeps 16 text g ≡ false → Judged text g (Err Event)
+  not_right e = λ room. fault_event room (sym e)
 
   module _ (right : Right text g) where
-    pub not_text : false ≡ keeps 9 text g → Judged text g 9
-    not_text e = refuses 9 (λ room. fault_text right room e) (λ z. omega arith) (omega arith)
+    pub not_text : keeps 9 text g ≡ false → Judged text g (Err Text)
+    not_text e = λ room. fault_text right room (sym e)
 
-    module _ (all_text : keeps 9 text g ≡ true) where
-      pub not_new : false ≡ keeps 11 text g → Judged text g 11
-      not_new e = refuses 11 (λ room. fault_repeat right all_text room e) (λ z. omega arith) (omega arith)
+    module _ (texts : Texts text g) where
+      pub not_new : keeps 11 text g ≡ false → Judged text g (Err Repeat)
+      not_new e = λ room. fault_repeat right texts room (sym e)
 
-      pub not_few : keeps 11 text g ≡ true → false ≡ below (few_table g) 10 → Judged text g 12
-      not_few all_new e = refuses 12 (λ room. fault_full right all_text all_new room e) (λ z. omega arith) (omega arith)
+      pub not_few : keeps 11 text g ≡ true → false ≡ below (few_table g) 10 → Judged text g (Err Full)
+      not_few new e = λ room. fault_full right texts new room e
 
-      pub all_few : Few g → Judged text g 0
+      pub all_few : Few g → Passed text g
       all_few few =
           record {
-            refused = λ ne. absurd (ne refl);
-            high = omega arith;
-            right = λ e. right;
-            texts = λ e. all_text;
-            few = λ e. few;
-            repeats = λ e held room. fault_repeat right all_text room (sym held);
-            left = λ e all_new room. fault_room right all_text all_new few room;
+            right = right;
+            texts = texts;
+            few = few;
+            repeats = λ held room. fault_repeat right texts room (sym held);
+            left = λ new room. fault_room right texts new few room;
           }
 
   -- ---- words that give something
@@ -106,38 +106,42 @@ module _ (text g : List ℕ) where
   unfolding fault_of_given
   fault_of_lem room laid = rw (laid_given laid)
 
-  pub no_tables : (room : ℕ) → false ≡ is_given g → (fault_of_given link text g room ≡ 16) × (1 ≤ 16) × (16 ≤ 16)
+  pub no_tables : (room : ℕ) → false ≡ is_given g → fault_of_given link text g room ≡ 16
   unfolding fault_of_given
-  no_tables room e = (rw (← e), omega arith, omega arith)
+  no_tables room e = rw (← e)
 
-  pub entries_wrong : (room n : ℕ) → Laid g → Judged text g n → (n ≡ 0 → ⊥) → (fault_of_given link text g room ≡ n) × (1 ≤ n) × (n ≤ 16)
-  entries_wrong room n laid j ne = (fault_of_lem room laid ∙ j.refused ne room, omega arith, j.high)
+  -- a refusal that is passed on
+  module _ (laid : Laid g) (room : ℕ) (f : Refusal) (r : Result ℕ Refusal) (passed : IsErrAnd r (λ e. e ≡ f)) (out c w x : List ℕ) where
+    passed_on : fault_of_given link text g room ≡ refusal_number f → Opens g text room r out c w x
+    passed_on is = let p = err_from_is_err_and r passed in rw (p.1, p.2) is
 
-  pub entry_repeats : (room n : ℕ) → Laid g → Judged text g n → n ≡ 0 → false ≡ keeps 11 text g → (fault_of_given link text g room ≡ 11) × (1 ≤ 11) × (11 ≤ 16)
-  entry_repeats room n laid j z held = (fault_of_lem room laid ∙ j.repeats z (sym held) room, omega arith, omega arith)
+    pub entries_wrong : Judged text g (Err f) → Opens g text room r out c w x
+    entries_wrong judged = passed_on (fault_of_lem room laid ∙ judged room)
 
-  module _ (laid : Laid g) (n : ℕ) (judged : Judged text g n) (z : n ≡ 0) (new : keeps 11 text g ≡ true) (ne : presence_of g ≡ 0 → ⊥) {out out' : List ℕ} {at : ℕ} (put : Puts out 0 at out' (head_of text g)) where
+    pub entry_repeats : Passed text g → Tells (keeps 11 text g) (Err f) → Opens g text room r out c w x
+    entry_repeats judged told = passed_on (fault_of_lem room laid ∙ judged.repeats told.0 room ∙ rw told.1)
+
+  module _ (laid : Laid g) (judged : Passed text g) (new : keeps 11 text g ≡ true) (ne : presence_of g ≡ 0 → ⊥) {out out' : List ℕ} {at : ℕ} (put : Puts out 0 at out' (head_of text g)) where
     long : length (head_octets link text (given_of g)) ≡ at
-    long = let b = put.behind in rw (head_is g text (judged.right z) ne) (omega arith)
+    long = let b = put.behind in rw (head_is g text judged.right ne) (omega arith)
 
     listing : is_none (given_of g) ≡ false
     listing = none_is g ∙ ne_eqb (presence_of g) 0 ne
 
     fault_left : (room : ℕ) → fault_of_given link text g room ≡ pick (leb at (min room 16384)) 0 14
-    fault_left room = fault_of_lem room laid ∙ judged.left z new room ∙ rw (listing, long)
+    fault_left room = fault_of_lem room laid ∙ judged.left new room ∙ rw (listing, long)
 
-    pub no_room : (room : ℕ) → min room 16384 < at → (fault_of_given link text g room ≡ 14) × (1 ≤ 14) × (14 ≤ 16)
-    no_room room h = (fault_left room ∙ rw (lt-leb at (min room 16384) h), omega arith, omega arith)
+    pub no_room : (room : ℕ) → min room 16384 < at → fault_of_given link text g room ≡ 14
+    no_room room h = fault_left room ∙ rw (lt-leb at (min room 16384) h)
 
-    pub opened : (room : ℕ) → out ≡ replicate (length out) 0 → at ≤ room → at ≤ 16384 → {c w x : List ℕ} → (tables_in c w ≡ add_tables g 10) × InOrder text c w x → Opened g text room at out' c w x
-    opened room e h k a =
-        let l : at ≤ min room 16384 = omega arith in
+    pub opened : (room : ℕ) → out ≡ replicate (length out) 0 → at ≤ min room 16384 → {c w x : List ℕ} → (tables_in c w ≡ add_tables g 10) × InOrder text c w x → Opened g text room at out' c w x
+    opened room e l a =
         record {
           right = fault_left room ∙ rw (le-leb at (min room 16384) l);
           behind = sym long;
-          near = k;
-          written = cleared (head_octets link text (given_of g)) e (put.is ∙ rw (head_is g text (judged.right z) ne));
-          tables = a.0 ∙ added_is g text (judged.right z);
+          near = omega arith;
+          written = cleared (head_octets link text (given_of g)) e (put.is ∙ rw (head_is g text judged.right ne));
+          tables = a.0 ∙ added_is g text judged.right;
           order = a.1;
         }
 

@@ -51,5 +51,5 @@ module _ (text g : List ℕ) (right : Right text g) (t i : ℕ) (l : i < get_or 
   unfolding new_in new_row keeps_row
   row_new h = case t 8 (λ s. rw (string_new s, lt-ltb t 8 s)) (λ s. rw (name_new s h, le-ltb t 8 s))
 
-  pub row_told : t < 10 → (r : Bool) (rows : ℕ) (u begun : Vocabulary Located) → rows ≡ rows_of g t → u ≡ add_rows g begun t i → begun ≡ add_tables g t → r ≡ new_in text g u t (rows + 3 * i) → r ≡ keeps_row 11 text g t i
-  row_told h r rows u begun e a b q = q ∙ rw (a, b, e) (row_new h)
+  pub row_told : t < 10 → (rows : ℕ) (u begun : Vocabulary Located) → rows ≡ rows_of g t → u ≡ add_rows g begun t i → begun ≡ add_tables g t → new_in text g u t (rows + 3 * i) ≡ keeps_row 11 text g t i
+  row_told h rows u begun e a b = rw (a, b, e) (row_new h)

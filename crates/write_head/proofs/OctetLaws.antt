@@ -24,17 +24,6 @@ use Rattle.write_head.specs.Head.{entry_octets, listing, part_octets, name_octet
 use Rattle.write_head.specs.RowContracts.{join_below, located, row_most, table_most, row_octets, rows_octets, table_octets_of, presence_of, head_of}
 use Rattle.write_head.proofs.GivenLaws.{identifying}
 
--- the bits of a name's parts
-pub parts_are : (p n x : ℕ) → some? p ≡ x → (y : ℕ) → some? n ≡ y → 2 * x + y ≡ 2 * some? p + some? n
-parts_are p n x e y f = rw (e, f)
-
-pub some_zero : (x : ℕ) → x ≡ 0 → some? x ≡ 0
-some_zero x e = rw e
-
-pub some_one : (x : ℕ) → (x ≡ 0 → ⊥) → some? x ≡ 1
-some_one zero h = absurd (h refl)
-some_one (suc x) h = refl
-
 module _ {out out' : List ℕ} {at r : ℕ} where
   pub part_none : (n : ℕ) → n ≡ 0 → out' ≡ out → r ≡ at → Puts out at r out' (part_octets n) × (r ≤ at + 3)
   part_none n e o q = rw (e, o) (puts_nothing q, omega arith)

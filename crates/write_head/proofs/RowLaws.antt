@@ -9,8 +9,10 @@ use native.Mathlib.Omega.{arith}
 use native.Mathlib.Numerals.{add-one}
 use native.Mathlib.Decide.{ℕ_discrete}
 use borrow.Author.Tests.{lt-ltb, le-ltb, le-leb, lt-leb, eq-eqb, ne_eqb, ltb-true, leb-true}
+use mir.Val.{bool_byte as from_bool}
 use lib.Dec.{eqb, leb, ltb, eqb-suc-zero}
 use lib.ListN.{length, get_or}
+use Rattle.format.specs.Numbers.{pick}
 use Rattle.format.specs.Tables.{same, same_triple}
 use Rattle.format.specs.Head.{some?}
 use Rattle.format.specs.Forms.{form_of}
@@ -34,7 +36,7 @@ use Rattle.events.specs.FromWords.{string_from, told_by, told_by_tag}
 use Rattle.events.specs.WellMade.{is_stretch, is_string}
 use Rattle.write_names.specs.Promises.{Spells}
 use Rattle.write_head.specs.Given.{entries_before, is_given, rows_of}
-use Rattle.write_head.specs.RowContracts.{below, some_below, Laid, form_given, located, start_count, is_right_name, right_row, text_row, starts_row, same_row, held_row, new_row, keeps_row, keeps_table, keeps, few_table, Few, Right, Texts, IsRow, Fits}
+use Rattle.write_head.specs.RowContracts.{below, some_below, Laid, form_given, located, start_count, is_right_name, right_row, text_row, starts_row, same_row, held_row, new_row, keeps_row, keeps_table, keeps, few_table, Few, Right, Texts, IsRow, Fits, presence_of}
 
 -- ---- loops
 and_false : (b : Bool) → (b && false) ≡ false
@@ -61,6 +63,11 @@ module _ (f : ℕ → Bool) where
   unfolding below
   below_more n e h = rw (add-one n, e, h)
 
+  pub below_all : (n : ℕ) → ((i : ℕ) → i < n → f i ≡ true) → below f n ≡ true
+  unfolding below
+  below_all zero e = refl
+  below_all (suc n) e = rw (below_all n (λ i h. e i (omega arith)), e n (omega arith))
+
   pub below_not : (n i : ℕ) → i < n → f i ≡ false → below f n ≡ false
   unfolding below
   below_not zero i h e = absurd (omega arith)
@@ -82,6 +89,10 @@ module _ (f : ℕ → Bool) where
   some_here zero i h e = absurd (omega arith)
   some_here (suc n) i h e = case i n (λ l. rw (some_here n i l e)) (λ l. let q : i ≡ n = omega arith in rw (← q, e) (or_true (some_below f i)))
 
+pub some_is : (x : ℕ) → from_bool (not (eqb x 0)) ≡ some? x
+some_is zero = refl
+some_is (suc x) = rw (eqb-suc-zero x)
+
 -- ---- where the rows are
 module _ (g : List ℕ) where
   pub before_none : 0 ≡ entries_before g 0
@@ -91,6 +102,31 @@ module _ (g : List ℕ) where
   pub before_more : (t n k : ℕ) → n ≡ entries_before g t → k ≡ get_or g t 0 → n + k ≡ entries_before g (t + 1)
   unfolding entries_before
   before_more t n k e h = rw (add-one t, e, h)
+
+  -- the presence bits of the tables before t
+  unfoldable pub bits_before : (t : ℕ) → ℕ
+  bits_before zero = 0
+  bits_before (suc t) = 2 * bits_before t + some? (get_or g t 0)
+
+  pub bits_none : 0 ≡ bits_before 0
+  unfolding bits_before
+  bits_none = refl
+
+  pub bits_more : (t n k : ℕ) → n ≡ bits_before t → k ≡ from_bool (not (eqb (get_or g t 0) 0)) → 2 * n + k ≡ bits_before (t + 1)
+  unfolding bits_before
+  bits_more t n k e h = rw (add-one t, e, h, some_is (get_or g t 0))
+
+  pub bits_all : bits_before 10 ≡ presence_of g
+  unfolding bits_before presence_of
+  bits_all = omega arith
+
+  bits_less : (t k : ℕ) → bits_before t ≤ bits_before (k + t)
+  unfolding bits_before
+  bits_less t zero = let z : 0 + t ≡ t = omega arith in rw z (omega arith)
+  bits_less t (suc k) =
+      let e : suc k + t ≡ suc (k + t) = omega arith in
+      let h = bits_less t k in
+      rw e (omega arith)
 
   before_less : (t k : ℕ) → entries_before g t ≤ entries_before g (k + t)
   unfolding entries_before
@@ -113,6 +149,18 @@ module _ (g : List ℕ) where
       let l = laid.1 in
       omega arith
 
+  -- at most ten bits
+  pub few_bits : (t : ℕ) → t ≤ 10 → bits_before t ≤ 1023
+  unfolding presence_of
+  few_bits t h =
+      let e : 10 - t + t ≡ 10 = omega arith in
+      let l = rw (e, bits_all) at (bits_less t (10 - t)) in
+      omega (arith, some-few)
+    where
+      some-few : (x : ℕ) → some? x ≤ 1
+      some-few zero = omega arith
+      some-few (suc x) = omega arith
+
   pub given_none : length g ≡ 0 → true ≡ is_given g
   unfolding is_given
   given_none e = rw e
@@ -129,51 +177,6 @@ module _ (g : List ℕ) where
 pub few_at : (g : List ℕ) (t : ℕ) → Few g → t < 10 → start_count t + get_or g t 0 ≤ 256
 unfolding few_table
 few_at g t few h = leb-true _ _ (below_at (few_table g) 10 t few h)
-
--- ---- rules
--- a name, by its three numbers
-module _ (g : List ℕ) (at : ℕ) where
-  abbrev pr : ℕ
-  pr = get_or g at 0
-
-  abbrev ns : ℕ
-  ns = get_or g (at + 1) 0
-
-  abbrev lo : ℕ
-  lo = get_or g (at + 2) 0
-
-  pub name_prefix : 1 + get_or g 0 0 < pr → false ≡ is_right_name g (triple_at g at)
-  unfolding is_right_name triple_at
-  name_prefix h = rw (lt-leb pr (1 + get_or g 0 0) h)
-
-  pub name_namespace : 1 + get_or g 1 0 < ns → false ≡ is_right_name g (triple_at g at)
-  unfolding is_right_name triple_at
-  name_namespace h = rw (lt-leb ns (1 + get_or g 1 0) h) (sym (and_false (leb pr (1 + get_or g 0 0))))
-
-  module _ (p : pr ≤ 1 + get_or g 0 0) (n : ns ≤ 1 + get_or g 1 0) where
-    pub name_local : (lo ≡ 0) → false ≡ is_right_name g (triple_at g at)
-    unfolding is_right_name triple_at
-    name_local z = rw (le-leb pr (1 + get_or g 0 0) p, le-leb ns (1 + get_or g 1 0) n, z)
-
-    pub name_over : get_or g 2 0 < lo → false ≡ is_right_name g (triple_at g at)
-    unfolding is_right_name triple_at
-    name_over h = rw (le-leb pr (1 + get_or g 0 0) p, le-leb ns (1 + get_or g 1 0) n, lt-leb lo (get_or g 2 0) h) (sym (and_false (leb 1 lo)))
-
-    module _ (z : lo ≡ 0 → ⊥) (l : lo ≤ get_or g 2 0) where
-      left : is_right_name g (triple_at g at) ≡ leb (some? pr) (some? ns)
-      unfolding is_right_name triple_at
-      left = let k : 1 ≤ lo = omega arith in rw (le-leb pr (1 + get_or g 0 0) p, le-leb ns (1 + get_or g 1 0) n, le-leb 1 lo k, le-leb lo (get_or g 2 0) l)
-
-      pub name_alone : pr ≡ 0 → eqb pr 0 ≡ is_right_name g (triple_at g at)
-      name_alone e = rw (left, e) (sym (le-leb 0 (some? ns) (omega arith)))
-
-      pub name_both : (pr ≡ 0 → ⊥) → not (eqb ns 0) ≡ is_right_name g (triple_at g at)
-      name_both ne = rw left (by pr ns ne)
-        where
-          by : (a b : ℕ) → (a ≡ 0 → ⊥) → not (eqb b 0) ≡ leb (some? a) (some? b)
-          by zero b h = absurd (h refl)
-          by (suc a) zero h = refl
-          by (suc a) (suc b) h = rw (eqb-suc-zero b)
 
 -- ---- tags
 -- the tags of a stretch: in utf-8, in another form
@@ -221,10 +224,6 @@ module _ (text g : List ℕ) (t at : ℕ) (row : IsRow text g t at) (f : StringF
   pub row_spells : Spells text (Stretch f (get_or g (at + 1) 0) (get_or g (at + 2) 0))
   row_spells = (row.0, row.1, row_sound)
 
-pub form_low : (k : ℕ) → k < 5 → Utf8 ≡ form_given k
-unfolding form_given form_of
-form_low k h = let z : k - 4 ≡ 0 = omega arith in rw z
-
 module _ (text g : List ℕ) where
   other_form : (k p n : ℕ) → 5 ≤ k → k ≤ 10 → is_stretch text (Stretch (form_given k) p n) ≡ false
   unfolding form_given form_of
@@ -269,38 +268,25 @@ module _ (text g : List ℕ) where
   unfolding text_row
   text_name t at h = rw (le-ltb t 8 h)
 
-  pub text_string : (t at : ℕ) (f : StringForm) (p n : ℕ) → t < 8 → f ≡ form_given (get_or g at 0) → p ≡ get_or g (at + 1) 0 → n ≡ get_or g (at + 2) 0 → (r : Bool)
-      → r ≡ is_text (said f (part text p (p + n))) → r ≡ text_row text g t at
+  pub text_string : (t at : ℕ) (f : StringForm) → t < 8 → f ≡ form_given (get_or g at 0) → (r : Bool)
+      → r ≡ is_text (said f (part text (get_or g (at + 1) 0) (get_or g (at + 1) 0 + get_or g (at + 2) 0))) → r ≡ text_row text g t at
   unfolding text_row
-  text_string t at f p n h d e k r q = rw (lt-ltb t 8 h, ← d, ← e, ← k, octets-part text f p n) q
+  text_string t at f h d r q = rw (lt-ltb t 8 h, ← d, octets-part text f (get_or g (at + 1) 0) (get_or g (at + 2) 0)) q
 
   pub starts_name : (t at : ℕ) → 8 ≤ t → false ≡ starts_row text g t at
   unfolding starts_row
   starts_name t at h = rw (le-ltb t 8 h)
 
-  pub starts_string : (t at p n : ℕ) → t < 8 → get_or g at 0 ≡ 2 → p ≡ get_or g (at + 1) 0 → n ≡ get_or g (at + 2) 0 → (r : Bool)
-      → r ≡ same (octets_of text (built_in (table_of t))) (octets_of text (stretch Utf8 p n)) → r ≡ starts_row text g t at
+  pub starts_string : (t at : ℕ) → t < 8 → get_or g at 0 ≡ 2 → (r : Bool)
+      → r ≡ same (octets_of text (built_in (table_of t))) (octets_of text (stretch Utf8 (get_or g (at + 1) 0) (get_or g (at + 2) 0))) → r ≡ starts_row text g t at
   unfolding starts_row
-  starts_string t at p n h u e f r q = rw (lt-ltb t 8 h, located-utf8 g at u, ← e, ← f) q
+  starts_string t at h u r q = rw (lt-ltb t 8 h, located-utf8 g at u) q
 
   module _ (t a b : ℕ) where
-    pub same_string : t < 8 → get_or g a 0 ≡ 2 → get_or g b 0 ≡ 2 → (p n q m : ℕ) → p ≡ get_or g (a + 1) 0 → n ≡ get_or g (a + 2) 0 → q ≡ get_or g (b + 1) 0 → m ≡ get_or g (b + 2) 0 → (r : Bool)
-        → r ≡ same (octets_of text (stretch Utf8 p n)) (octets_of text (stretch Utf8 q m)) → r ≡ same_row text g t a b
+    pub same_string : t < 8 → get_or g a 0 ≡ 2 → get_or g b 0 ≡ 2 → (r : Bool)
+        → r ≡ same (octets_of text (stretch Utf8 (get_or g (a + 1) 0) (get_or g (a + 2) 0))) (octets_of text (stretch Utf8 (get_or g (b + 1) 0) (get_or g (b + 2) 0))) → r ≡ same_row text g t a b
     unfolding same_row
-    same_string h u v p n q m e f e' f' r is = rw (lt-ltb t 8 h, located-utf8 g a u, located-utf8 g b v, ← e, ← f, ← e', ← f') is
-
-    module _ (h : 8 ≤ t) where
-      pub same_prefix : (get_or g a 0 ≡ get_or g b 0 → ⊥) → eqb (get_or g a 0) (get_or g b 0) ≡ same_row text g t a b
-      unfolding same_row same_triple triple_at
-      same_prefix ne = rw (le-ltb t 8 h, ne_eqb _ _ ne)
-
-      pub same_namespace : get_or g a 0 ≡ get_or g b 0 → (get_or g (a + 1) 0 ≡ get_or g (b + 1) 0 → ⊥) → eqb (get_or g (a + 1) 0) (get_or g (b + 1) 0) ≡ same_row text g t a b
-      unfolding same_row same_triple triple_at
-      same_namespace e ne = rw (le-ltb t 8 h, eq-eqb _ _ e, ne_eqb _ _ ne)
-
-      pub same-local : get_or g a 0 ≡ get_or g b 0 → get_or g (a + 1) 0 ≡ get_or g (b + 1) 0 → eqb (get_or g (a + 2) 0) (get_or g (b + 2) 0) ≡ same_row text g t a b
-      unfolding same_row same_triple triple_at
-      same-local e f = rw (le-ltb t 8 h, eq-eqb _ _ e, eq-eqb _ _ f)
+    same_string h u v r is = rw (lt-ltb t 8 h, located-utf8 g a u, located-utf8 g b v) is
 
   -- row i of table t is held
   module _ (t i : ℕ) where
@@ -320,46 +306,42 @@ module _ (text g : List ℕ) where
     unfolding held_row
     held_not e j h k s = let q : j ≡ i = omega arith in rw (← e) (sym (rw q at s))
 
-    pub new_other : 5 ≤ t → t < 8 → true ≡ new_row text g t i
-    unfolding new_row
-    new_other l h = rw (le-leb 5 t l, lt-ltb t 8 h)
+    -- it is new where it may be a repeat, or is not held
+    pub new_other : (5 ≤ t) × (t < 8) → true ≡ keeps_row 11 text g t i
+    unfolding keeps_row new_row
+    new_other h = rw (le-leb 5 t h.0, lt-ltb t 8 h.1)
 
-    pub new_low : t < 5 → (r : Bool) → r ≡ held_row text g t i → not r ≡ new_row text g t i
-    unfolding new_row
+    pub new_low : t < 5 → (r : Bool) → r ≡ held_row text g t i → not r ≡ keeps_row 11 text g t i
+    unfolding keeps_row new_row
     new_low h r e = rw (lt-leb 5 t h, ← e)
 
-    pub new_name_lem : 8 ≤ t → (r : Bool) → r ≡ held_row text g t i → not r ≡ new_row text g t i
-    unfolding new_row
+    pub new_name_lem : 8 ≤ t → (r : Bool) → r ≡ held_row text g t i → not r ≡ keeps_row 11 text g t i
+    unfolding keeps_row new_row
     new_name_lem h r e = let l : 5 ≤ t = omega arith in rw (le-leb 5 t l, le-ltb t 8 h, ← e)
 
-    -- by rule
-    pub keeps_right : (rule : ℕ) → rule ≡ 16 → (r : Bool) → r ≡ right_row text g t (row i) → r ≡ keeps_row rule text g t i
-    unfolding keeps_row
-    keeps_right rule e r q = rw e q
-
-    pub keeps_text : (rule : ℕ) → rule ≡ 9 → (r : Bool) → r ≡ text_row text g t (row i) → r ≡ keeps_row rule text g t i
-    unfolding keeps_row
-    keeps_text rule e r q = rw e q
-
-    pub keeps_new : (rule : ℕ) → (rule ≡ 16 → ⊥) → (rule ≡ 9 → ⊥) → (r : Bool) → r ≡ new_row text g t i → r ≡ keeps_row rule text g t i
-    unfolding keeps_row
-    keeps_new rule a b r q = rw (ne_eqb rule 16 a, ne_eqb rule 9 b) q
-
-  pub table_keeps : (rule t : ℕ) → (n i : ℕ) → n ≡ get_or g t 0 → below (keeps_row rule text g t) i ≡ true → i ≤ n → n ≤ i → true ≡ keeps_table rule text g t
+  -- a table, and all of them, keep to a rule, or one row breaks it
+  pub table_keeps : (rule t i : ℕ) → i ≡ get_or g t 0 → below (keeps_row rule text g t) i ≡ true → keeps_table rule text g t ≡ true
   unfolding keeps_table
-  table_keeps rule t n i e b h k = sym (rw (← e) (below_end (keeps_row rule text g t) n i b h k))
+  table_keeps rule t i e b = rw (← e) b
 
-  pub table_breaks : (rule t : ℕ) → (n i : ℕ) → n ≡ get_or g t 0 → i < n → false ≡ keeps_row rule text g t i → false ≡ keeps_table rule text g t
+  pub table_breaks : (rule t i : ℕ) → i < get_or g t 0 → keeps_row rule text g t i ≡ false → keeps_table rule text g t ≡ false
   unfolding keeps_table
-  table_breaks rule t n i e h b = sym (rw (← e) (below_not (keeps_row rule text g t) n i h (sym b)))
+  table_breaks rule t i h b = below_not (keeps_row rule text g t) (get_or g t 0) i h b
 
-  pub all_keep : (rule i : ℕ) → below (keeps_table rule text g) i ≡ true → i ≤ 10 → 10 ≤ i → true ≡ keeps rule text g
+  pub all_tables : (rule i : ℕ) → i ≡ 10 → below (keeps_table rule text g) i ≡ true → keeps rule text g ≡ true
   unfolding keeps
-  all_keep rule i b h k = sym (below_end (keeps_table rule text g) 10 i b h k)
+  all_tables rule i e b = rw e at b
 
-  pub one_breaks : (rule i : ℕ) → i < 10 → false ≡ keeps_table rule text g i → false ≡ keeps rule text g
+  pub one_breaks : (rule i : ℕ) → i < 10 → keeps_table rule text g i ≡ false → keeps rule text g ≡ false
   unfolding keeps
-  one_breaks rule i h b = sym (below_not (keeps_table rule text g) 10 i h (sym b))
+  one_breaks rule i h b = below_not (keeps_table rule text g) 10 i h b
+
+  pub all_keep : (rule : ℕ) → ((t i : ℕ) → t < 10 → i < get_or g t 0 → keeps_row rule text g t i ≡ true) → keeps rule text g ≡ true
+  unfolding keeps keeps_table
+  all_keep rule each = below_all (keeps_table rule text g) 10 (λ t h. below_all (keeps_row rule text g t) (get_or g t 0) (λ i l. each t i h l))
+
+  pub row_breaks : (rule : ℕ) → (t : ℕ) × (i : ℕ) × (t < 10) × (i < get_or g t 0) × (keeps_row rule text g t i ≡ false) → keeps rule text g ≡ false
+  row_breaks rule w = one_breaks rule w.0 w.2 (table_breaks rule w.0 w.1 w.3 w.4)
 
   -- ---- what right rows say
   module _ (right : Right text g) (t i : ℕ) (ten : t < 10) (h : i < get_or g t 0) where
@@ -438,18 +420,20 @@ module _ (text g : List ℕ) where
         let d : 0 + get_or g 2 0 ≤ 256 = few_at g 2 few (omega arith) in
         (right_row_lem texts, λ k. let n = right_numbers k in (omega arith, omega arith, omega arith))
 
-pub few_more : (g : List ℕ) (t b n : ℕ) → below (few_table g) t ≡ true → b ≡ start_count t → n ≡ get_or g t 0 → b + n ≤ 256 → below (few_table g) (t + 1) ≡ true
-unfolding few_table
-few_more g t b n all e f h = let k : start_count t + get_or g t 0 ≤ 256 = omega arith in below_more (few_table g) t all (le-leb _ _ k)
+-- ---- few
+module _ (g : List ℕ) (t b : ℕ) (e : b ≡ from_bool (ltb t 2)) where
+  starts : b ≡ start_count t
+  unfolding start_count
+  starts = e ∙ by (ltb t 2)
+    where
+      by : (c : Bool) → from_bool c ≡ pick c 1 0
+      by true = refl
+      by false = refl
 
-pub few_not : (g : List ℕ) (t b n : ℕ) → t < 10 → b ≡ start_count t → n ≡ get_or g t 0 → 256 < b + n → false ≡ below (few_table g) 10
-unfolding few_table
-few_not g t b n h e f l = let k : 256 < start_count t + get_or g t 0 = omega arith in sym (below_not (few_table g) 10 t h (lt-leb _ _ k))
+  pub few_more : below (few_table g) t ≡ true → b + get_or g t 0 ≤ 256 → below (few_table g) (t + 1) ≡ true
+  unfolding few_table
+  few_more all h = below_more (few_table g) t all (le-leb _ _ (rw starts at h))
 
-pub starts_one : (t : ℕ) → t < 2 → (1 ≡ start_count t) × (1 ≤ 1)
-unfolding start_count
-starts_one t h = (rw (lt-ltb t 2 h), omega arith)
-
-pub starts_none : (t : ℕ) → 2 ≤ t → (0 ≡ start_count t) × (0 ≤ 1)
-unfolding start_count
-starts_none t h = (rw (le-ltb t 2 h), omega arith)
+  pub few_not : t < 10 → 256 < b + get_or g t 0 → false ≡ below (few_table g) 10
+  unfolding few_table
+  few_not h l = sym (below_not (few_table g) 10 t h (lt-leb _ _ (rw starts at l)))

@@ -1,11 +1,11 @@
 -- Contracts of the code, not definitions to be believed. How the head in lent output, tables and counts stands for its definition.
-use Rattle.std.specs.Prelude.{ℕ, ◌≤◌, ◌≡◌, length, replicate}
+use Rattle.std.specs.Prelude.{ℕ, ◌≤◌, ◌≡◌, length, replicate, Result, Ok, Err}
 use Rattle.std.proofs.lemmas.List.Edits.{sets}
 use Rattle.format.specs.Octets.{Octets, Words}
 use Rattle.format.specs.Tables.{link}
+use Rattle.format.specs.Refusals.{refusal_number}
+use Rattle.format.specs.declared.refusals.Refusal.{Refusal}
 use Rattle.write_names.specs.Promises.{tables_in, InOrder}
-use Rattle.write_head.specs.declared.Begun.{Begun}
-use Rattle.write_head.specs.declared.Begun.TheVariants.{Body, Refused}
 use Rattle.write_head.specs.Given.{given_of}
 use Rattle.write_head.specs.Head.{tables_of, head_octets, fault_of_given}
 
@@ -19,6 +19,6 @@ pub record Opened (g : Words) (text : Octets) (room at : ℕ) (out : Octets) (c 
   pub tables : tables_in c w ≡ tables_of link (given_of g)
   pub order : InOrder text c w x
 
-abbrev pub Opens : (g : Words) (text : Octets) (room : ℕ) → Begun → (out : Octets) (c w : Words) (x : Octets) → Type 0
-Opens g text room (Body at) out c w x = Opened g text room at out c w x
-Opens g text room (Refused n) out c w x = (fault_of_given link text g room ≡ n) × (1 ≤ n) × (n ≤ 16)
+abbrev pub Opens : (g : Words) (text : Octets) (room : ℕ) → Result ℕ Refusal → (out : Octets) (c w : Words) (x : Octets) → Type 0
+Opens g text room (Ok at) out c w x = Opened g text room at out c w x
+Opens g text room (Err r) out c w x = fault_of_given link text g room ≡ refusal_number r

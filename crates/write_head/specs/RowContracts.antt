@@ -1,11 +1,14 @@
 -- Contracts of the code, not definitions to be believed. Given tables row by row, by the number of their table: which rows are right, what they add, and their octets.
-use Rattle.std.specs.Prelude.{ℕ, zero, suc, ◌+◌, ◌-◌, ◌*◌, ◌/◌, ◌%◌, ◌≤◌, ◌<◌, min, ◌≡◌, Bool, true, false, not, ◌&&◌, ◌||◌, [], ◌∷◌, ◌++◌, map, length, get_or, eqb, leb, ltb}
+use Rattle.std.specs.Prelude.{ℕ, zero, suc, ◌+◌, ◌-◌, ◌*◌, ◌/◌, ◌%◌, ◌≤◌, ◌<◌, min, ◌≡◌, Bool, true, false, not, ◌&&◌, ◌||◌, [], ◌∷◌, ◌++◌, map, length, get_or, eqb, leb, ltb, Result, Ok, Err}
 use Rattle.format.specs.Octets.{Octets, Words}
 use Rattle.format.specs.Numbers.{pick}
 use Rattle.format.specs.Tables.{Triple, Vocabulary, strings, names, same, same_triple, adding, adding_name, link}
 use Rattle.format.specs.Head.{some?}
 use Rattle.format.specs.declared.StringForm.{StringForm}
 use Rattle.format.specs.Forms.{form_of}
+use Rattle.format.specs.Refusals.{refusal_number}
+use Rattle.format.specs.declared.refusals.Refusal.{Refusal}
+use Rattle.format.specs.declared.refusals.Refusal.TheVariants.{Repeat}
 use Rattle.fields.specs.Utf8.{is_text}
 use Rattle.tables.specs.Located.{Located, stretch, octets_of, start}
 use Rattle.tables.specs.Rows.{table_of, built_in, triple_at}
@@ -126,6 +129,11 @@ pub record Grown (text : Octets) (t n : ℕ) (v : Vocabulary Located) (c c' w' :
   pub here : get_or c' t 0 ≡ get_or c t 0 + n
   pub elsewhere : (j : ℕ) → (j ≡ t → ⊥) → get_or c' j 0 ≡ get_or c j 0
 
+-- What adding says of rows that are new, or held already.
+abbrev pub Tells : (new : Bool) → Result (Unit {0}) Refusal → Type 0
+Tells new (Ok done) = new ≡ true
+Tells new (Err r) = (new ≡ false) × (r ≡ Repeat)
+
 -- ---- octets
 -- The most octets of a row, and of a table.
 abbrev pub row_most : ℕ
@@ -159,12 +167,15 @@ unfoldable pub head_of : Octets → Words → Octets
 head_of text g = 0xE0 ∷ 0x00 ∷ 0x00 ∷ 0x01 ∷ 0x20 ∷ presence_of g / 256 ∷ presence_of g % 256 ∷ join_below (table_octets_of text g) 10
 
 -- ---- the judgement of all rows
--- r is what is wrong with the entries whatever the room, 0 if only repeats and the room are left to judge.
-pub record Judged (text : Octets) (g : Words) (r : ℕ) : Type 0 where
-  pub refused : (r ≡ 0 → ⊥) → (room : ℕ) → fault_of_head link text (given_of g) room ≡ r
-  pub high : r ≤ 16
-  pub right : r ≡ 0 → Right text g
-  pub texts : r ≡ 0 → Texts text g
-  pub few : r ≡ 0 → Few g
-  pub repeats : r ≡ 0 → keeps 11 text g ≡ false → (room : ℕ) → fault_of_head link text (given_of g) room ≡ 11
-  pub left : r ≡ 0 → keeps 11 text g ≡ true → (room : ℕ) → fault_of_head link text (given_of g) room ≡ pick (is_none (given_of g) || leb (length (head_octets link text (given_of g))) (min room 16384)) 0 14
+-- Every row is right and every string is text, and no table would have an entry too many: only repeats and the room are left to judge.
+pub record Passed (text : Octets) (g : Words) : Type 0 where
+  pub right : Right text g
+  pub texts : Texts text g
+  pub few : Few g
+  pub repeats : keeps 11 text g ≡ false → (room : ℕ) → fault_of_head link text (given_of g) room ≡ 11
+  pub left : keeps 11 text g ≡ true → (room : ℕ) → fault_of_head link text (given_of g) room ≡ pick (is_none (given_of g) || leb (length (head_octets link text (given_of g))) (min room 16384)) 0 14
+
+-- Or r is what is wrong with the entries, whatever the room.
+abbrev pub Judged : Octets → Words → Result (Unit {0}) Refusal → Type 0
+Judged text g (Ok done) = Passed text g
+Judged text g (Err r) = (room : ℕ) → fault_of_head link text (given_of g) room ≡ refusal_number r

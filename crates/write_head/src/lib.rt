@@ -20,18 +20,11 @@ ghost use Rattle.write_head.specs.RowContracts.{Laid, presence_of};
 
 use adding::add_tables;
 use fields::put::put_part;
-use format::refusals::{EVENT, REPEAT, ROOM};
+use format::refusals::Refusal;
 use given::{is_given, presence};
-use judge::fault;
+use judge::judge;
 use octets::put_head;
 use tables::{Counts, put_counts};
-
-// Where the body starts; or the refusal's number.
-#[derive(Clone, Copy)]
-pub enum Begun {
-    Body(usize),
-    Refused(u32),
-}
 
 // No tables: the header, as far as the output reaches, and the counts with which every document starts.
 fn put_header(out: &mut [u8], counts: &mut [u32])
@@ -52,26 +45,18 @@ fn begin_head(
     t: &mut [u32],
     counts: &mut [u32],
     index: &mut [u8],
-) -> Begun
+) -> Result<usize, Refusal>
     requires { (length text.now ≤ 16384) × (out.old ≡ replicate (length out.old) 0) × (t.old ≡ replicate table_words 0) × (length counts.old ≡ 10) × (index.old ≡ replicate slots 0) × Laid given.now × (presence_of given.now ≡ 0 → ⊥) }
     ensures { Opens given.now text.now room result out.new counts.new t.new index.new }
 {
-    let n = fault(given, text);
-    if n != 0 {
-        return Begun::Refused(n);
-    }
+    judge(given, text)?;
     put_counts(counts, Counts::start());
-    if !add_tables(text, given, t, counts, index) {
-        return Begun::Refused(REPEAT);
-    }
+    add_tables(text, given, t, counts, index)?;
     let at = put_head(out, given, text);
-    if room < at {
-        return Begun::Refused(ROOM);
+    if room < at || fields::OCTETS < at {
+        return Err(Refusal::Room);
     }
-    if fields::OCTETS < at {
-        return Begun::Refused(ROOM);
-    }
-    Begun::Body(at)
+    Ok(at)
 }
 
 // The octets before the body, judged by `room`, on output, tables and index that are clear; what the output has no place for is left out. A refusal leaves anything
@@ -85,20 +70,16 @@ pub fn begin(
     t: &mut [u32],
     counts: &mut [u32],
     index: &mut [u8],
-) -> Begun
+) -> Result<usize, Refusal>
     requires { (length text.now ≤ 16384) × (out.old ≡ replicate (length out.old) 0) × (t.old ≡ replicate table_words 0) × (length counts.old ≡ 10) × (index.old ≡ replicate slots 0) }
     ensures { Opens given.now text.now room result out.new counts.new t.new index.new }
 {
     if !is_given(given) {
-        return Begun::Refused(EVENT);
+        return Err(Refusal::Event);
     }
-    if given.len() == 0 {
+    if given.is_empty() || presence(given) == 0 {
         put_header(out, counts);
-        return Begun::Body(fields::BODY);
-    }
-    if presence(given) == 0 {
-        put_header(out, counts);
-        return Begun::Body(fields::BODY);
+        return Ok(fields::BODY);
     }
     begin_head(given, text, out, room, t, counts, index)
 }

@@ -1,7 +1,6 @@
 // The head into the output. Its octets are counted on where the output has no room for them.
 ghost use Rattle.std.specs.Prelude.{◌≡◌, ◌+◌, ◌-◌, ◌*◌, ◌^◌, ◌≤◌, ◌<◌, length, get_or};
 ghost use Rattle.format.specs.Numbers.{top};
-ghost use Rattle.format.specs.Head.{some?};
 ghost use Rattle.format.specs.declared.StringForm.TheVariants.{Utf8};
 ghost use Rattle.tables.specs.Located.{octets_of};
 ghost use Rattle.tables.specs.Rows.{table_of};
@@ -12,7 +11,7 @@ ghost use Rattle.fields.specs.PutContracts.{Puts};
 ghost use Rattle.write_head.specs.Head.{entry_octets, listing, part_octets, name_octets};
 ghost use Rattle.write_head.specs.RowContracts.{Laid, Right, Texts, Few, Fits, join_below, row_most, table_most, row_octets, rows_octets, table_octets_of, head_of};
 
-use crate::given::{ROW, form_given, presence, rows_of, wide};
+use crate::given::{ROW, form_given, presence, rows_of};
 use events::EventString;
 use fields::put::{put, put_count, put_length, put_number_at_bit_2, put_part};
 use format::table::{ATTRIBUTE_VALUE, ELEMENT_NAME};
@@ -28,7 +27,7 @@ fn put_string(out: &mut [u8], at: usize, table: usize, text: &[u8], x: EventStri
         return write_names::put_string(out, at, 5, 0, text, x, n);
     }
     let behind = put_length(out, at, 2, 0, n);
-    put_part(out, behind, text, wide(x.place()), n)
+    put_part(out, behind, text, x.place() as usize, n)
 }
 
 // A part of a name: its number, unless there is none.
@@ -42,28 +41,16 @@ fn put_number(out: &mut [u8], at: usize, n: u32) -> usize
     put_number_at_bit_2(out, at, 0, n)
 }
 
-// The octet that says which of prefix and namespace a name has.
-fn parts(prefix: u32, namespace: u32) -> u8
-    ensures { result ≡ 2 * some? prefix + some? namespace }
-{
-    if namespace == 0 {
-        if prefix == 0 {
-            return 0;
-        }
-        return 2;
-    }
-    if prefix == 0 {
-        return 1;
-    }
-    3
-}
-
-// A name: that octet, and the numbers of its parts.
+// A name: an octet that says which of prefix and namespace it has, and the numbers of its parts.
 fn put_name(out: &mut [u8], at: usize, prefix: u32, namespace: u32, local: u32) -> usize
     requires { (at < 2 ^ 31) × (prefix ≤ top) × (namespace ≤ top) × (local ≤ top) }
     ensures { Puts out.old at result out.new (name_octets (record { prefix = prefix; namespace = namespace; local = local })) × (result ≤ at + row_most) }
 {
-    put(out, at, parts(prefix, namespace));
+    put(
+        out,
+        at,
+        2 * u8::from(prefix != 0) + u8::from(namespace != 0),
+    );
     let behind = put_number(out, at + 1, prefix);
     let then = put_number(out, behind, namespace);
     put_number(out, then, local)
@@ -86,12 +73,9 @@ fn put_rows(out: &mut [u8], from: usize, given: &[u32], text: &[u8], table: usiz
     ensures { Puts out.old from result out.new (rows_octets text.now given.now table (get_or given.now table 0)) × (result ≤ from + 256 * row_most) }
 {
     let rows = rows_of(given, table);
-    let n = wide(given[table]);
     let mut at = from;
-    let mut i = 0;
-    while i < n {
+    for i in 0..given[table] as usize {
         at = put_row(out, at, given, text, table, rows + ROW * i);
-        i += 1;
     }
     at
 }
@@ -114,10 +98,8 @@ fn put_tables(out: &mut [u8], from: usize, given: &[u32], text: &[u8]) -> usize
     ensures { Puts out.old from result out.new (join_below (table_octets_of text.now given.now) 10) }
 {
     let mut at = from;
-    let mut table = 0;
-    while table < Counts::TABLES {
+    for table in 0..Counts::TABLES {
         at = put_table(out, at, given, text, table);
-        table += 1;
     }
     at
 }

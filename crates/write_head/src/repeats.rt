@@ -1,19 +1,17 @@
 // Whether a given entry is built in or is given before: each is looked for among those before it. Only where a table would be too full: elsewhere `adding` finds it with the index.
 ghost use Rattle.std.specs.Prelude.{◌≡◌, ◌+◌, ◌*◌, ◌≤◌, ◌<◌, length, get_or};
 ghost use Rattle.write_head.specs.Given.{rows_of};
-ghost use Rattle.write_head.specs.RowContracts.{Laid, starts_row, same_row, held_row, new_row, Right};
+ghost use Rattle.write_head.specs.RowContracts.{Laid, starts_row, same_row, held_row, keeps_row, Right};
 
-use crate::given::{ROW, rows_of, wide};
+use crate::given::{ROW, rows_of};
 use format::table::{ATTRIBUTE_VALUE, ELEMENT_NAME};
 
 fn is_built_in(given: &[u32], text: &[u8], table: usize, at: usize) -> bool
     requires { (at + 3 ≤ length given.now) × (table < 8 → (get_or given.now at 0 ≡ 2) × (get_or given.now (at + 1) 0 + get_or given.now (at + 2) 0 ≤ length text.now)) }
     ensures { result ≡ starts_row text.now given.now table at }
 {
-    if ELEMENT_NAME <= table {
-        return false;
-    }
-    tables::is_built_in(text, table, wide(given[at + 1]), wide(given[at + 2]))
+    table < ELEMENT_NAME
+        && tables::is_built_in(text, table, given[at + 1] as usize, given[at + 2] as usize)
 }
 
 fn is_same(given: &[u32], text: &[u8], table: usize, a: usize, b: usize) -> bool
@@ -23,14 +21,14 @@ fn is_same(given: &[u32], text: &[u8], table: usize, a: usize, b: usize) -> bool
     if table < ELEMENT_NAME {
         return tables::same_octets(
             text,
-            wide(given[a + 1]),
-            wide(given[a + 2]),
+            given[a + 1] as usize,
+            given[a + 2] as usize,
             text,
-            wide(given[b + 1]),
-            wide(given[b + 2]),
+            given[b + 1] as usize,
+            given[b + 2] as usize,
         );
     }
-    given[a] == given[b] && (given[a + 1] == given[b + 1] && given[a + 2] == given[b + 2])
+    given[a] == given[b] && given[a + 1] == given[b + 1] && given[a + 2] == given[b + 2]
 }
 
 // Identifying strings and names alone: these are in utf-8.
@@ -42,12 +40,10 @@ fn is_held(given: &[u32], text: &[u8], table: usize, i: usize) -> bool
     if is_built_in(given, text, table, rows + ROW * i) {
         return true;
     }
-    let mut j = 0;
-    while j < i {
+    for j in 0..i {
         if is_same(given, text, table, rows + ROW * j, rows + ROW * i) {
             return true;
         }
-        j += 1;
     }
     false
 }
@@ -55,13 +51,8 @@ fn is_held(given: &[u32], text: &[u8], table: usize, i: usize) -> bool
 // Row i of a table is new, or may be a repeat: a value, a chunk, another string.
 pub fn is_new(given: &[u32], text: &[u8], table: usize, i: usize) -> bool
     requires { Laid given.now × (table < 10) × (i < get_or given.now table 0) × Right text.now given.now }
-    ensures { result ≡ new_row text.now given.now table i }
+    ensures { result ≡ keeps_row 11 text.now given.now table i }
 {
-    if ELEMENT_NAME <= table {
-        return !is_held(given, text, table, i);
-    }
-    if ATTRIBUTE_VALUE <= table {
-        return true;
-    }
-    !is_held(given, text, table, i)
+    let may_repeat = ATTRIBUTE_VALUE <= table && table < ELEMENT_NAME;
+    may_repeat || !is_held(given, text, table, i)
 }

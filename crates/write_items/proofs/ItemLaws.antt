@@ -4,7 +4,6 @@ use mathlib.Core.Path.{◌≡◌, refl, sym, subst, ◌∙◌}
 use mathlib.Core.Bool.{Bool, true, false, not, ◌&&◌}
 use mathlib.Core.List.{List, [], ◌∷◌, ◌++◌, map}
 use Prim.Native.Nat.{ℕ, ◌+◌, ◌-◌, ◌*◌, ◌/◌, ◌^◌, ◌≤◌, ◌<◌, min}
-use native.Mathlib.Nat.{le-min}
 use native.Mathlib.Numerals.{add-one}
 use native.Mathlib.Omega.{arith}
 use borrow.Author.Tests.{lt-ltb, le-leb, lt-leb, eqb-false, leb-false}
@@ -17,7 +16,9 @@ use Rattle.format.specs.Tables.{StringTable, PREFIX, NAMESPACE_NAME, LOCAL_NAME,
 use Rattle.format.specs.Strings.{with_length, in_format, c15, keeping}
 use Rattle.format.specs.Names.{NameLayout, of_element, of_attribute}
 use Rattle.format.specs.Items as F
+use Rattle.std.specs.Prelude.{Ok, Err}
 use Rattle.format.specs.Document.{aligned}
+use Rattle.format.specs.declared.refusals.Refusal.TheVariants.{Room}
 use Rattle.format.specs.declared.StringForm.{StringForm}
 use Rattle.format.specs.declared.StringForm.TheVariants.{Utf8, Utf16, Numeric, Dates, Short, Int, Long}
 use Rattle.fields.specs.PutContracts.{Puts}
@@ -34,23 +35,20 @@ use Rattle.states.specs.declared.State.{State}
 use Rattle.states.specs.States.{farthest, mode_of, state_of, coming, moved_to, opened_at, after_end, declaring_mode}
 use Rattle.states.proofs.Modes.{mode_content, mode_listed, mode_declaring, after_mode, after-coming, coming_low, declaring_coming, root_one}
 use Rattle.events.specs.declared.Kind.{Kind}
-use Rattle.events.specs.declared.Kind.TheVariants.{Namespace, Start, Attribute, Chunk, Comment, Instruction, End}
+use Rattle.events.specs.declared.Kind.TheVariants.{Blank, Namespace, Start, Attribute, Chunk, Comment, Instruction, End}
 use Rattle.events.specs.declared.Event.{Event}
 use Rattle.events.specs.Records.{located_of, optional_of}
-use Rattle.write_names.specs.declared.Wrote as W
-use Rattle.write_names.specs.declared.Wrote.TheVariants.{Put, Full}
 use Rattle.write_names.specs.declared.QualifiedName.{QualifiedName}
 use Rattle.write_names.specs.Choices.{Wrote, write_id, write_optional, write_name, field_in, write_literal, write_value, worth_adding, within}
-use Rattle.write_names.specs.Promises.{string_most, value_most, pair_most, name_most, tables_in, InOrder, named_of, triple_for, Proper, pair_behind, declared_by, Stands, Meets}
+use Rattle.write_names.specs.Promises.{string_most, value_most, pair_most, name_most, tables_in, InOrder, named_of, triple_for, Proper, pair_behind, declared_by, Stands}
 use Rattle.write_names.proofs.Order.{entries_count, triples_count, counted_at}
 use Rattle.write_names.proofs.NameLaws.{names-kept}
-use Rattle.write_items.specs.declared.Step.TheVariants.{On, Stop}
 use Rattle.write_items.specs.Events.{name_of, event_of, is_declaring, is_listing}
 use Rattle.write_items.specs.Items.{WroteItem, before_declaration, before_name, name_lead, write_item}
 use Rattle.write_items.specs.Steps.{is_attribute, is_end, fits}
 use Rattle.write_items.specs.OutputContracts.{end_octet}
 use Rattle.write_items.specs.StepContracts.{known}
-use Rattle.write_items.specs.ItemContracts.{owes, list_ended, end_put, qualified_of, Fit, landing, Near, Lands, holding}
+use Rattle.write_items.specs.ItemContracts.{owes, list_ended, end_put, qualified_of, Fit, Landed, holding}
 use Rattle.write_items.proofs.WellMade.{Named}
 use Rattle.write_items.proofs.Strings.{prefix_suits, namespace_suits, stretch_suits}
 use Rattle.write_items.proofs.ModeLaws.{declares}
@@ -62,6 +60,17 @@ name_ready text table lead e name is low high bits n =
     rw is (low, high, bits, prefix_suits text e.prefix n.prefix, namespace_suits text e.namespace n.namespace, s.0, s.1)
 
 -- ---- the end of an attribute list, and the room
+pub no_member : (k : Kind) (e : Event) → (k ≡ Attribute → ⊥) → is_attribute (event_of k e) ≡ false
+unfolding event_of
+no_member Blank e h = refl
+no_member Namespace e h = refl
+no_member Start e h = refl
+no_member Attribute e h = absurd (h refl)
+no_member Chunk e h = refl
+no_member Comment e h = refl
+no_member Instruction e h = refl
+no_member End e h = refl
+
 module _ (st : State) (e : Event) (out : List ℕ) where
   pub settled_elsewhere : is_listing (mode_of st.mode) ≡ false → (st ≡ list_ended (owes st e) st) × (out ≡ end_put (owes st e) out st.at)
   unfolding owes
@@ -82,13 +91,13 @@ unfolding aligned
 octet-aligned at = omega arith
 
 module _ (text : List ℕ) (room : ℕ) (st : State) where
-  pub held_over : min room 16384 < (st.at + 1) / 2 → Stop 14 ≡ holding text room st
+  pub held_over : min room 16384 < (st.at + 1) / 2 → Err Room ≡ holding text room st
   unfolding holding fits link
   held_over h = rw (← (octet-aligned st.at), lt-leb _ _ h)
 
-  pub held_fitting : (st.at + 1) / 2 ≤ room → (st.at + 1) / 2 ≤ 16384 → On st ≡ holding text room st
+  pub held_fitting : (st.at + 1) / 2 ≤ min room 16384 → Ok st ≡ holding text room st
   unfolding holding fits link
-  held_fitting h l = rw (← (octet-aligned st.at), le-leb _ _ (le-min h l))
+  held_fitting h = rw (← (octet-aligned st.at), le-leb _ _ h)
 
 -- ---- octets put behind others
 module _ {text out out' c w ix : List ℕ} {H K : Type 0} (d : Wrote H) (d' : Wrote K) {at most h : ℕ} where
@@ -106,9 +115,9 @@ as_wrote d = record { octets = d.octets; how = d.choice; number = 0; tables = d.
 module _ (text : List ℕ) (a : Bool) (st : State) (c out w : List ℕ) (e : E.Event Located) (item : is_end e ≡ false) (next : ℕ → State) (even : (k : ℕ) → (next k).at ≡ 2 * k)
     (state : (k : ℕ) → state_of (next k) (write_item link text a (known st c w) e).state.tables ≡ (write_item link text a (known st c w) e).state)
     (shallow : (k : ℕ) → (next k).level + coming (next k).mode ≤ 32) where
-  lands : (most : ℕ) (r : W.Wrote) (out' c' w' ix' : List ℕ) → 1 ≤ length (write_item link text a (known st c w) e).octets
-      → Meets text out (aligned st.at / 2) most r out' c' w' ix' (as_wrote (write_item link text a (known st c w) e)) → Near r → Lands text a st c out w e (landing next r) out' c' w' ix'
-  lands most (Put h) out' c' w' ix' some s n =
+  lands : (most h : ℕ) (out' c' w' ix' : List ℕ) → 1 ≤ length (write_item link text a (known st c w) e).octets
+      → Stands text out (aligned st.at / 2) most h out' c' w' ix' (as_wrote (write_item link text a (known st c w) e)) → h ≤ farthest → Landed text a st c out w e (next h) out' c' w' ix'
+  lands most h out' c' w' ix' some s n =
       let z : 2 * h / 2 ≡ h = omega arith in
       record {
         laid = rw (item, even h, z) (s.puts, refl, some);
@@ -117,18 +126,12 @@ module _ (text : List ℕ) (a : Bool) (st : State) (c out w : List ℕ) (e : E.E
         order = s.order;
         shallow = shallow h;
       }
-  lands most Full out' c' w' ix' some s n = (refl, s)
 
   -- octets stand before what was put last
   lands_behind : {H : Type 0} (d : Wrote H) {xs out₁ : List ℕ} {at : ℕ} (most : ℕ) → Puts out (aligned st.at / 2) at out₁ xs → at ≤ aligned st.at / 2 + 1
-      → (write_item link text a (known st c w) e).octets ≡ xs ++ d.octets → (write_item link text a (known st c w) e).state.tables ≡ d.tables → (r : W.Wrote) (out' c' w' ix' : List ℕ)
-      → 1 ≤ length (write_item link text a (known st c w) e).octets → Meets text out₁ at most r out' c' w' ix' d → Near r → Lands text a st c out w e (landing next r) out' c' w' ix'
-  lands_behind d most p l o s (Put h) out' c' w' ix' some m n = lands (1 + most) (Put h) out' c' w' ix' some (stands_behind d _ 1 p l o s m) n
-  lands_behind d most p l o s Full out' c' w' ix' some m n = (refl, rw s m)
-
-pub meets_near : {H : Type 0} (text out : List ℕ) (at most : ℕ) (r : W.Wrote) (out' c' w' ix' : List ℕ) (d : Wrote H) → at + most ≤ farthest → Meets text out at most r out' c' w' ix' d → Near r
-meets_near text out at most (Put h) out' c' w' ix' d l s = let f = s.few in omega arith
-meets_near text out at most Full out' c' w' ix' d l s = tt
+      → (write_item link text a (known st c w) e).octets ≡ xs ++ d.octets → (write_item link text a (known st c w) e).state.tables ≡ d.tables → (h : ℕ) (out' c' w' ix' : List ℕ)
+      → 1 ≤ length (write_item link text a (known st c w) e).octets → Stands text out₁ at most h out' c' w' ix' d → h ≤ farthest → Landed text a st c out w e (next h) out' c' w' ix'
+  lands_behind d most p l o s h out' c' w' ix' some m n = lands (1 + most) h out' c' w' ix' some (stands_behind d _ 1 p l o s m) n
 
 -- ---- an item has an octet
 sizes_4 : 256 ≤ sizes (numbers 4)
@@ -220,10 +223,6 @@ value_behind : {H : Type 0} {text out out₁ out₂ c₁ w₁ i₁ c₂ w₂ i�
     → Stands text out₁ h value_most g out₂ c₂ w₂ i₂ (write_value link text t (tables_in c₁ w₁) y) → Stands text out at (m + value_most) g out₂ c₂ w₂ i₂ (and_value text t d y)
 value_behind {text = text} {m = m} d t y s r = stands_behind (write_value link text t d.tables y) _ m s.puts s.few refl refl (rw s.tables at r)
 
--- ---- a kind that was found out
-pub kind_fits : {text c w ix : List ℕ} {st : State} {e : Event} {k : Kind} → e.kind ≡ k → Fit text st c w ix e.kind e → Fit text st c w ix k e
-kind_fits {text} {c} {w} {ix} {st} {e} q f = subst (λ (x : Kind). Fit text st c w ix x e) q f
-
 -- ---- an element more
 room_by : (level : ℕ) (b : Bool) → level + pick b 1 0 ≤ 32 → (not b && leb link.depth level) ≡ false → level < 32
 unfolding link
@@ -242,21 +241,21 @@ start_room {st = st} fit = element_room st.level st.mode fit.shallow fit.roomy
 module _ (text : List ℕ) (a : Bool) (st : State) (c w : List ℕ) (e : Event) where
   pub chunk_lands : {ix : List ℕ} → Fit text st c w ix Chunk e → {at : ℕ} → (at ≡ aligned st.at / 2) × (at ≤ 16385) → {out out' c' w' ix' : List ℕ} {h : ℕ}
       → Stands text out at value_most h out' c' w' ix' (write_literal link c15 text CONTENT_CHARACTER_CHUNK (tables_in c w) (located_of e.value))
-      → Lands text a st c out w (event_of Chunk e) (landing (λ k. moved_to st k st.mode) (Put h)) out' c' w' ix'
+      → Landed text a st c out w (event_of Chunk e) (moved_to st h st.mode) out' c' w' ix'
   unfolding event_of write_item table_of
   chunk_lands fit q {out' = out'} {c' = c'} {w' = w'} {ix' = ix'} {h = h} s =
       let n = entries_count c w fit.order.ten 6 (omega arith) in
       let l = counted_at text c w _ 6 fit.order in
       let o = chunk_by text (tables_in c w) (located_of e.value) (omega arith) _ refl in
-      lands text a st c _ w (event_of Chunk e) refl (λ k. moved_to st k st.mode) (λ k. refl) (λ k. refl) (λ k. fit.shallow) value_most (Put h) out' c' w' ix' o
+      lands text a st c _ w (event_of Chunk e) refl (λ k. moved_to st k st.mode) (λ k. refl) (λ k. refl) (λ k. fit.shallow) value_most h out' c' w' ix' o
       (rw (← q.0) (stands_as _ _ refl refl s)) (let b = q.1 in let f = s.few in omega arith)
 
   pub comment_lands : {ix : List ℕ} → Fit text st c w ix Comment e → {at : ℕ} → (at ≡ aligned st.at / 2) × (at ≤ 16385) → {out out₁ out' c' w' ix' : List ℕ} {h : ℕ} → out₁ ≡ set out at 0xE2
       → Stands text out₁ (at + 1) value_most h out' c' w' ix' (write_value link text (table_of 7) (tables_in c w) (located_of e.value))
-      → Lands text a st c out w (event_of Comment e) (landing (λ k. moved_to st k st.mode) (Put h)) out' c' w' ix'
+      → Landed text a st c out w (event_of Comment e) (moved_to st h st.mode) out' c' w' ix'
   unfolding event_of write_item table_of
   comment_lands fit q {out' = out'} {c' = c'} {w' = w'} {ix' = ix'} {h = h} p s =
-      lands text a st c _ w (event_of Comment e) refl (λ k. moved_to st k st.mode) (λ k. refl) (λ k. refl) (λ k. fit.shallow) (1 + value_most) (Put h) out' c' w' ix' (omega arith)
+      lands text a st c _ w (event_of Comment e) refl (λ k. moved_to st k st.mode) (λ k. refl) (λ k. refl) (λ k. fit.shallow) (1 + value_most) h out' c' w' ix' (omega arith)
       (rw (← q.0) (stands_behind _ _ 1 (puts_one p) (omega arith) refl refl s)) (let b = q.1 in let f = s.few in omega arith)
 
   pub instruction_full : within link (write_id text (table_of 3) (tables_in c w) (located_of e.name)).tables ≡ false
@@ -267,25 +266,30 @@ module _ (text : List ℕ) (a : Bool) (st : State) (c w : List ℕ) (e : Event) 
   pub instruction_lands : {ix : List ℕ} → Fit text st c w ix Instruction e → {at : ℕ} → (at ≡ aligned st.at / 2) × (at ≤ 16385) → {out out₁ out₂ out' c₁ w₁ i₁ c' w' ix' : List ℕ} {h g : ℕ}
       → out₁ ≡ set out at 0xE1 → Stands text out₁ (at + 1) string_most h out₂ c₁ w₁ i₁ (write_id text (table_of 3) (tables_in c w) (located_of e.name))
       → Stands text out₂ h value_most g out' c' w' ix' (write_value link text (table_of 7) (tables_in c₁ w₁) (located_of e.value))
-      → Lands text a st c out w (event_of Instruction e) (landing (λ k. moved_to st k st.mode) (Put g)) out' c' w' ix'
+      → Landed text a st c out w (event_of Instruction e) (moved_to st g st.mode) out' c' w' ix'
   unfolding event_of write_item table_of
   instruction_lands fit q {out' = out'} {c' = c'} {w' = w'} {ix' = ix'} {g = g} p s r =
-      lands text a st c _ w (event_of Instruction e) refl (λ k. moved_to st k st.mode) (λ k. refl) (λ k. refl) (λ k. fit.shallow) (1 + (string_most + value_most)) (Put g) out' c' w' ix'
+      lands text a st c _ w (event_of Instruction e) refl (λ k. moved_to st k st.mode) (λ k. refl) (λ k. refl) (λ k. fit.shallow) (1 + (string_most + value_most)) g out' c' w' ix'
       (omega arith) (rw (← q.0) (stands_behind _ _ 1 (puts_one p) (omega arith) refl refl (value_behind _ OTHER_STRING _ s r))) (let b = q.1 in let f = s.few in let k = r.few in omega arith)
 
-  pub declare_lands : {ix : List ℕ} → Fit text st c w ix Namespace e → {at₀ at : ℕ} {out out₁ : List ℕ} → (at₀ ≡ aligned st.at / 2) × (at₀ ≤ 16385)
-      → Puts out at₀ at out₁ (before_declaration (mode_of st.mode) a) × (at ≤ at₀ + 1) → (r : W.Wrote) (out' c' w' ix' : List ℕ)
-      → Meets text out₁ at pair_most r out' c' w' ix' (declared_by text (tables_in c w) (optional_of e.prefix) (optional_of e.namespace))
-      → Lands text a st c out w (event_of Namespace e) (landing (λ k. moved_to st k (declaring_mode a)) r) out' c' w' ix'
+  pub declare_full : within link (declared_by text (tables_in c w) (optional_of e.prefix) (optional_of e.namespace)).tables ≡ false
+      → within link (write_item link text a (known st c w) (event_of Namespace e)).state.tables ≡ false
   unfolding event_of write_item declared_by pair_behind
-  declare_lands fit q p r out' c' w' ix' m =
+  declare_full f = f
+
+  pub declare_lands : {ix : List ℕ} → Fit text st c w ix Namespace e → {at₀ at : ℕ} {out out₁ : List ℕ} → (at₀ ≡ aligned st.at / 2) × (at₀ ≤ 16385)
+      → Puts out at₀ at out₁ (before_declaration (mode_of st.mode) a) × (at ≤ at₀ + 1) → {h : ℕ} {out' c' w' ix' : List ℕ}
+      → Stands text out₁ at pair_most h out' c' w' ix' (declared_by text (tables_in c w) (optional_of e.prefix) (optional_of e.namespace))
+      → Landed text a st c out w (event_of Namespace e) (moved_to st h (declaring_mode a)) out' c' w' ix'
+  unfolding event_of write_item declared_by pair_behind
+  declare_lands fit q p {h} {out'} {c'} {w'} {ix'} m =
       let s = element_room st.level st.mode fit.shallow fit.roomy in
       let b = q.1 in
       let l = p.1 in
-      let n = meets_near text _ _ pair_most r out' c' w' ix' _ (omega arith) m in
+      let f = m.few in
       let coming-on = declaring_coming a in
       lands_behind text a st c _ w (event_of Namespace e) refl (λ k. moved_to st k (declaring_mode a)) (λ k. refl) (λ k. rw (mode_declaring a)) (λ k. omega arith) _ pair_most (rw q.0 at p.0) (rw q.0 at l)
-      refl refl r out' c' w' ix' (simp length-append (omega arith)) m n
+      refl refl h out' c' w' ix' (simp length-append (omega arith)) m (omega arith)
 
   module _ {ix : List ℕ} (fit : Fit text st c w ix Start e) {at₀ at lead : ℕ} {out out₁ : List ℕ} (q : (at₀ ≡ aligned st.at / 2) × (at₀ ≤ 16385))
       (p : Puts out at₀ at out₁ (before_name (mode_of st.mode)) × (at ≤ at₀ + 1)) (lead_is : lead ≡ name_lead (mode_of st.mode) a) where
@@ -297,18 +301,23 @@ module _ (text : List ℕ) (a : Bool) (st : State) (c w : List ℕ) (e : Event) 
         let o = name_by (layout_of 8) (name_lead (mode_of st.mode) a) text (tables_in c w) (name_of e) (wide_name 8) (omega arith) _ refl in
         simp length-append (omega arith)
 
-    pub start_lands : (name : QualifiedName) → name ≡ qualified_of 8 lead e → (r : W.Wrote) (out' c' w' ix' : List ℕ)
-        → Meets text out₁ at name_most r out' c' w' ix' (write_name (layout_of name.table) name.lead text (tables_in c w) (named_of name))
-        → Lands text a st c out w (event_of Start e) (landing (λ k. opened_at st k a) r) out' c' w' ix'
+    pub start_full : (name : QualifiedName) → name ≡ qualified_of 8 lead e → within link (write_name (layout_of name.table) name.lead text (tables_in c w) (named_of name)).tables ≡ false
+        → within link (write_item link text a (known st c w) (event_of Start e)).state.tables ≡ false
     unfolding event_of write_item layout_of
-    start_lands name is r out' c' w' ix' m =
+    start_full name is f = rw (is, lead_is) at f
+
+    pub start_lands : (name : QualifiedName) → name ≡ qualified_of 8 lead e → {h : ℕ} {out' c' w' ix' : List ℕ}
+        → Stands text out₁ at name_most h out' c' w' ix' (write_name (layout_of name.table) name.lead text (tables_in c w) (named_of name))
+        → Landed text a st c out w (event_of Start e) (opened_at st h a) out' c' w' ix'
+    unfolding event_of write_item layout_of
+    start_lands name is {h} {out'} {c'} {w'} {ix'} m =
         let s = start_room fit in
         let b = q.1 in
         let l = p.1 in
-        let n = meets_near text _ _ name_most r out' c' w' ix' _ (omega arith) m in
+        let f = m.few in
         let coming-on = after-coming a in
         lands_behind text a st c _ w (event_of Start e) refl (λ k. opened_at st k a) (λ k. refl) (λ k. rw (root_one, after_mode a, add-one)) (λ k. omega arith) _ name_most (rw q.0 at p.0) (rw q.0 at l)
-        refl refl r out' c' w' ix' start_some (rw (is, lead_is) at m) n
+        refl refl h out' c' w' ix' start_some (rw (is, lead_is) at m) (omega arith)
 
   module _ {ix : List ℕ} (fit : Fit text st c w ix Attribute e) (name : QualifiedName) (is : name ≡ qualified_of 9 0 e) where
     attribute_some : 1 ≤ length (write_item link text a (known st c w) (event_of Attribute e)).octets
@@ -327,7 +336,7 @@ module _ (text : List ℕ) (a : Bool) (st : State) (c w : List ℕ) (e : Event) 
     pub attribute_lands : {at : ℕ} → (at ≡ aligned st.at / 2) × (at ≤ 16385) → {out out₁ out' c₁ w₁ i₁ c' w' ix' : List ℕ} {h g : ℕ}
         → Stands text out at name_most h out₁ c₁ w₁ i₁ (write_name (layout_of name.table) name.lead text (tables_in c w) (named_of name))
         → Stands text out₁ h value_most g out' c' w' ix' (write_value link text (table_of 5) (tables_in c₁ w₁) (located_of e.value))
-        → Lands text a st c out w (event_of Attribute e) (landing (λ k. moved_to st k 2) (Put g)) out' c' w' ix'
+        → Landed text a st c out w (event_of Attribute e) (moved_to st g 2) out' c' w' ix'
     unfolding event_of write_item layout_of table_of
     attribute_lands q {out' = out'} {c' = c'} {w' = w'} {ix' = ix'} {g = g} s r =
         let b = q.1 in
@@ -335,11 +344,11 @@ module _ (text : List ℕ) (a : Bool) (st : State) (c w : List ℕ) (e : Event) 
         let k = r.few in
         let d = fit.shallow in
         let l = coming_low 2 (omega arith) in
-        lands text a st c _ w (event_of Attribute e) refl (λ k. moved_to st k 2) (λ k. refl) (λ k. rw mode_listed) (λ k. omega arith) (name_most + value_most) (Put g) out' c' w' ix' attribute_some
+        lands text a st c _ w (event_of Attribute e) refl (λ k. moved_to st k 2) (λ k. refl) (λ k. rw mode_listed) (λ k. omega arith) (name_most + value_most) g out' c' w' ix' attribute_some
         (rw (← q.0) (stands_as _ _ refl refl (value_behind _ ATTRIBUTE_VALUE _ (rw is at s) r))) (omega arith)
 
 pub end_lands : (text : List ℕ) (a : Bool) (st : State) (c w ix : List ℕ) → InOrder text c w ix → st.at ≤ 32769 → st.level ≤ 32 → {out out' : List ℕ} → out' ≡ set out (st.at / 2) (end_octet st.at)
-    → Lands text a st c out w E.End (On (after_end st (st.level - 1))) out' c w ix
+    → Landed text a st c out w E.End (after_end st (st.level - 1)) out' c w ix
 unfolding write_item
 end_lands text a st c w ix order l d p =
     record { laid = (refl, p); near = omega arith; state = rw mode_content; order = order; shallow = let k = coming_low 0 (omega arith) in omega arith }

@@ -4,7 +4,6 @@ pub mod Strings
 pub mod Faults
 pub mod Misnamed
 pub mod ModeLaws
-pub mod KindLaws
 pub mod OutputLaws
 pub mod ItemLaws
 pub mod StepLaws

@@ -7,6 +7,8 @@ use mathlib.Core.List.{List}
 use Prim.Native.Nat.{ℕ}
 use Rattle.format.specs.declared.StringForm.TheVariants.{Utf8, Utf16, Numeric, Dates, Short, Int, Long}
 use Rattle.format.specs.Items.{State}
+use Rattle.format.specs.declared.refusals.Refusal.TheVariants.{Event as NoEvent}
+use Rattle.std.specs.Prelude.{Err}
 use Rattle.tables.specs.Located.{Located}
 use Rattle.events.specs.declared.EventString.{EventString}
 use Rattle.events.specs.declared.EventString.TheVariants.{Absent, Empty, Stretch, XmlPrefix, XmlNamespace}
@@ -74,5 +76,5 @@ module _ (text : List ℕ) (e : Event) where
   unmade : Misnamed e → well_made text e.kind e ≡ false
   unmade = ⊎_elim (blank_unmade e.kind) (⊎_elim (by_prefix e.kind) (⊎_elim (by_namespace e.kind) (by_name e.kind)))
 
-  pub fault_misnamed : (v : State Located) → Misnamed e → 16 ≡ fault_of text v e
+  pub fault_misnamed : (v : State Located) → Misnamed e → Err NoEvent ≡ fault_of text v e
   fault_misnamed v m = fault_unmade text v e (unmade m)

@@ -12,6 +12,10 @@ use Rattle.format.specs.Numbers.{pick}
 use Rattle.format.specs.Events as E
 use Rattle.format.specs.Tables.{link}
 use Rattle.format.specs.Items as F
+use Rattle.format.specs.Refusals.{refusal_number}
+use Rattle.format.specs.declared.refusals.Refusal as R
+use Rattle.format.specs.declared.refusals.Refusal.{Refusal}
+use Rattle.std.specs.Prelude.{Result, Ok, Err}
 use Rattle.format.specs.Document.{aligned}
 use Rattle.tables.specs.Located.{Located}
 use Rattle.states.specs.declared.State.{State}
@@ -21,8 +25,6 @@ use Rattle.events.specs.declared.Event.{Event}
 use Rattle.write_names.specs.Choices.{within}
 use Rattle.write_names.proofs.Order.{within_order}
 use Rattle.tables.proofs.Found.{clash, both_true}
-use Rattle.write_items.specs.declared.Step.{Step}
-use Rattle.write_items.specs.declared.Step.TheVariants.{On, Stop}
 use Rattle.write_items.specs.Events.{event_of, goes_on, among_children, is_listing}
 use Rattle.write_items.specs.Items.{WroteItem, write_item}
 use Rattle.write_items.specs.Steps.{is_attribute, is_end, opens, owed, settled, fits, halves_of}
@@ -30,17 +32,8 @@ use Rattle.write_items.specs.OutputContracts.{Holds, Grown}
 use Rattle.write_items.specs.Promises.{fault_of}
 use Rattle.write_items.specs.StepContracts.{Ready, known, item_of, halves_for, verdict, Went, Steps}
 use Rattle.write_items.specs.ItemContracts.{owes, list_ended, end_put, Fit, Laid, Landed, holding}
-use Rattle.write_items.proofs.Faults.{Faultless, fault_none, fault_most, judge_fault, judge_none}
+use Rattle.write_items.proofs.Faults.{Faultless, fault_none, judge_none}
 use Rattle.write_items.proofs.OutputLaws.{length-pad, length-halves, end_written, item_written, end_written-behind_list, item_written-behind_list}
-
--- ---- refused before anything is written
-pub step_fault : (text : List ℕ) (room : ℕ) (a : Bool) (st : State) (c w : List ℕ) (e : Event) (n : ℕ) → n ≡ fault_of text (known st c w) e → (n ≡ 0 → ⊥)
-    → (verdict text room a st.at (known st c w) e ≡ n) × (1 ≤ n) × (n ≤ 16)
-unfolding verdict
-step_fault text room a st c w e zero q ne = absurd (ne refl)
-step_fault text room a st c w e (suc n) q ne =
-    let l = fault_most text (known st c w) e in
-    (judge_fault text (known st c w) e room st.at _ _ n (sym q), omega arith, omega arith)
 
 -- ---- the halves of an end or an item, behind an end that is owed or not
 module _ (text : List ℕ) (room at : ℕ) (v : F.State Located) (e : E.Event Located) (d : WroteItem) (out out' : List ℕ) (next : ℕ) where
@@ -118,7 +111,7 @@ module _ (text : List ℕ) (st : State) (c w : List ℕ) (e : Event) where
       let at = r.at in
       record { order = r.order; at = omega arith; shallow = r.shallow; made = f.made; texts = f.texts; roomy = f.shallow; inside = end_inside (known st c w) _ f.goes }
 
-  pub step_fit : {ix : List ℕ} → Ready text st c w ix → fault_of text (known st c w) e ≡ 0 → {next : State} → next ≡ list_ended (owes st e) st → Fit text next c w ix e.kind e
+  pub step_fit : {ix : List ℕ} → Ready text st c w ix → fault_of text (known st c w) e ≡ Ok tt → {next : State} → next ≡ list_ended (owes st e) st → Fit text next c w ix e.kind e
   step_fit r f q = rw q (fit_by (owes st e) refl r (fault_none text (known st c w) e f))
 
   module _ (a : Bool) where
@@ -127,7 +120,7 @@ module _ (text : List ℕ) (st : State) (c w : List ℕ) (e : Event) where
     item_by true o = rw (o, mode_content)
     item_by false o = rw o
 
-    module _ (f : fault_of text (known st c w) e ≡ 0) where
+    module _ (f : fault_of text (known st c w) e ≡ Ok tt) where
       -- a table is full
       full_by : (b : Bool) (o : owes st e ≡ b) (room : ℕ) → within link (write_item link text a (known (list_ended b st) c w) (event_of e.kind e)).state.tables ≡ false
           → verdict text room a st.at (known st c w) e ≡ 12
@@ -161,16 +154,16 @@ module _ (text : List ℕ) (st : State) (c w : List ℕ) (e : Event) where
               onward = laid_onward text room st.at (known st c w) (event_of e.kind e) (item_of text a (known st c w) e) out out' next.at b (is_end (event_of e.kind e)) laid_by_lem;
             }
 
-        steps_by : (b : Bool) → fits link text room next.at ≡ b → Steps text room a st c out w e (pick b (On next) (Stop 14)) out' c' w' ix'
+        steps_by : (b : Bool) → fits link text room next.at ≡ b → Steps text room a st c out w e (pick b (Ok next) (Err R.TheVariants.Room)) out' c' w' ix'
         steps_by true q = went_by q
-        steps_by false q = (fits_by false q, omega arith, omega arith)
+        steps_by false q = fits_by false q
 
       module _ (room : ℕ) (st₁ : State) (out out₁ : List ℕ) (ended : (st₁ ≡ list_ended (owes st e) st) × (out₁ ≡ end_put (owes st e) out st.at)) where
-        pub step_full : (n : ℕ) → (n ≡ 12) × (within link (write_item link text a (known st₁ c w) (event_of e.kind e)).state.tables ≡ false)
-            → (verdict text room a st.at (known st c w) e ≡ n) × (1 ≤ n) × (n ≤ 16)
-        step_full n h = rw h.0 (full_by (owes st e) refl room (rw ended.0 at h.1), omega arith, omega arith)
+        pub step_full : (r : Refusal) → (r ≡ R.TheVariants.Full) × (within link (write_item link text a (known st₁ c w) (event_of e.kind e)).state.tables ≡ false)
+            → verdict text room a st.at (known st c w) e ≡ refusal_number r
+        step_full r h = rw h.0 (full_by (owes st e) refl room (rw ended.0 at h.1))
 
-        pub step_held : {next : State} {out' c' w' ix' : List ℕ} → Landed text a st₁ c out₁ w (event_of e.kind e) next out' c' w' ix' → (r : Step) → r ≡ holding text room next
+        pub step_held : {next : State} {out' c' w' ix' : List ℕ} → Landed text a st₁ c out₁ w (event_of e.kind e) next out' c' w' ix' → (r : Result State Refusal) → r ≡ holding text room next
             → Steps text room a st c out w e r out' c' w' ix'
         unfolding holding
         step_held {next} {out'} {c'} {w'} {ix'} landed r h = rw h (steps_by (owes st e) refl room next out out' c' w' ix' (rw (ended.0, ended.1) at landed) _ refl)

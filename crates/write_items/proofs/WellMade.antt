@@ -1,6 +1,7 @@
 -- What a record that is well made has, by its kind; a stretch that a test takes lies in the text area.
 -- Assumes nothing.
 use mathlib.Core.Path.{◌≡◌, refl, subst}
+use mathlib.Core.Logic.{◌⊎◌, ⊎_elim}
 use mathlib.Core.Bool.{true, not, ◌||◌}
 use mathlib.Core.List.{List}
 use Prim.Native.Nat.{ℕ, ◌+◌, ◌<◌, ◌≤◌}
@@ -114,9 +115,9 @@ module _ (text : List ℕ) (e : Event) where
   by_kind Instruction h = let a = both_true (no_name e) _ h in let b = both_true (is_stretch text e.name) _ a.1 in (nameless a.0, b.0, b.1)
   by_kind End h = let a = both_true (no_name e) _ h in let b = both_true (is_absent e.name) _ a.1 in (nameless a.0, b.0, b.1)
 
-  -- what a record has whose kind was found out
-  pub made : well_made text e.kind e ≡ true → (k : Kind) → e.kind ≡ k → Made text k e
-  made h k q = by_kind k (subst (λ (x : Kind). well_made text x e ≡ true) q h)
+  -- no blank record is well made
+  pub end_kind : (k : Kind) → (k ≡ Blank) ⊎ (k ≡ End) → well_made text k e ≡ true → k ≡ End
+  end_kind k s m = ⊎_elim (λ (q : k ≡ Blank). absurd (subst (λ (x : Kind). Made text x e) q (by_kind k m))) (λ (q : k ≡ End). q) s
 
   named_placed : Named text e → Lies text e.value → Placed text e
   named_placed n v =

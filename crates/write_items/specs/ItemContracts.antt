@@ -1,24 +1,21 @@
 -- Contracts of the code, not definitions to be believed. What each function of a step writes: the end that an attribute list owes, the item behind it, and whether all of it fits.
-use Rattle.std.specs.Prelude.{ℕ, ◌+◌, ◌*◌, ◌/◌, ◌<◌, ◌≤◌, ◌≡◌, Bool, true, false, not, ◌&&◌, length, set, leb}
+use Rattle.std.specs.Prelude.{ℕ, ◌+◌, ◌*◌, ◌/◌, ◌<◌, ◌≤◌, ◌≡◌, Bool, true, false, not, ◌&&◌, length, set, leb, Result, Ok, Err}
 use Rattle.format.specs.Octets.{Octets, Words}
 use Rattle.format.specs.Numbers.{pick}
 use Rattle.format.specs.Events as E
 use Rattle.format.specs.Tables.{link}
 use Rattle.format.specs.Document.{aligned}
-use Rattle.format.specs.Refusals.{FULL, ROOM}
+use Rattle.format.specs.declared.refusals.Refusal.{Refusal}
+use Rattle.format.specs.declared.refusals.Refusal.TheVariants.{Full, Room}
 use Rattle.fields.specs.PutContracts.{Puts}
 use Rattle.tables.specs.Located.{Located}
 use Rattle.states.specs.declared.State.{State}
 use Rattle.states.specs.States.{farthest, mode_of, coming, after_end}
 use Rattle.events.specs.declared.Kind.{Kind}
 use Rattle.events.specs.declared.Event.{Event}
-use Rattle.write_names.specs.declared.Wrote.{Wrote}
-use Rattle.write_names.specs.declared.Wrote.TheVariants.{Put, Full}
 use Rattle.write_names.specs.declared.QualifiedName.{QualifiedName}
 use Rattle.write_names.specs.Choices.{within}
 use Rattle.write_names.specs.Promises.{InOrder}
-use Rattle.write_items.specs.declared.Step.{Step}
-use Rattle.write_items.specs.declared.Step.TheVariants.{On, Stop}
 use Rattle.write_items.specs.Events.{well_made, event_of, all_text, is_listing}
 use Rattle.write_items.specs.Items.{write_item}
 use Rattle.write_items.specs.Steps.{is_attribute, is_end, opens, fits}
@@ -51,16 +48,6 @@ pub record Fit (text : Octets) (st : State) (c w : Words) (index : Octets) (k : 
 abbrev pub qualified_of : (table lead : ℕ) → Event → QualifiedName
 qualified_of table lead e = record { table = table; lead = lead; prefix = e.prefix; namespace = e.namespace; local = e.name }
 
--- The state that is had at the octet behind those that were put; a table that is full is the refusal 12.
-abbrev pub landing : (ℕ → State) → Wrote → Step
-landing next (Put k) = On (next k)
-landing next Full = Stop FULL
-
--- The place behind what was put is one that a state may be moved to.
-abbrev pub Near : Wrote → Type 0
-Near (Put k) = k ≤ farthest
-Near Full = Unit {0}
-
 -- From the half `at` to the half `next`: an end, or an item's octets from the next whole octet.
 abbrev pub Laid : (end : Bool) → (out : Octets) (at next : ℕ) (out' os : Octets) → Type 0
 Laid true out at next out' os = (next ≡ at + 1) × (out' ≡ set out (at / 2) (end_octet at))
@@ -75,10 +62,10 @@ pub record Landed (text : Octets) (a : Bool) (st : State) (c : Words) (out : Oct
   pub shallow : next.level + coming next.mode ≤ 32
 
 -- Or a table is full, and the definition's has an entry too many.
-abbrev pub Lands : Octets → Bool → State → (c : Words) → Octets → (w : Words) → E.Event Located → Step → Octets → (c' w' : Words) (index' : Octets) → Type 0
-Lands text a st c out w e (On next) out' c' w' index' = Landed text a st c out w e next out' c' w' index'
-Lands text a st c out w e (Stop n) out' c' w' index' = (n ≡ FULL) × (within link (write_item link text a (known st c w) e).state.tables ≡ false)
+abbrev pub Lands : Octets → Bool → State → (c : Words) → Octets → (w : Words) → E.Event Located → Result State Refusal → Octets → (c' w' : Words) (index' : Octets) → Type 0
+Lands text a st c out w e (Ok next) out' c' w' index' = Landed text a st c out w e next out' c' w' index'
+Lands text a st c out w e (Err r) out' c' w' index' = (r ≡ Full) × (within link (write_item link text a (known st c w) e).state.tables ≡ false)
 
--- The state, if what is written up to it fits; else the refusal 14.
-unfoldable pub holding : Octets → (room : ℕ) → State → Step
-holding text room st = pick (fits link text room st.at) (On st) (Stop ROOM)
+-- The state, if what is written up to it fits the room.
+unfoldable pub holding : Octets → (room : ℕ) → State → Result State Refusal
+holding text room st = pick (fits link text room st.at) (Ok st) (Err Room)

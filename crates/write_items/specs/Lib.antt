@@ -5,6 +5,5 @@ pub mod Items
 pub mod Steps
 pub mod OutputContracts
 pub mod Promises
-pub mod RecordContracts
 pub mod StepContracts
 pub mod ItemContracts

@@ -1,10 +1,11 @@
 -- Contracts of the code, not definitions to be believed. What the code judges of an event before anything is written.
-use Rattle.std.specs.Prelude.{ℕ, ◌+◌, ◌<◌, ◌≤◌, ◌≡◌, ◌&&◌, length, leb}
+use Rattle.std.specs.Prelude.{ℕ, ◌+◌, ◌<◌, ◌≤◌, ◌≡◌, ◌&&◌, length, leb, Result, Ok, Err}
 use Rattle.format.specs.Octets.{Octets}
 use Rattle.format.specs.Numbers.{pick}
 use Rattle.format.specs.Tables.{link}
 use Rattle.format.specs.Items as F
-use Rattle.format.specs.Refusals.{TEXT, DEPTH, EVENT}
+use Rattle.format.specs.declared.refusals.Refusal as R
+use Rattle.format.specs.declared.refusals.Refusal.{Refusal}
 use Rattle.format.specs.declared.StringForm.TheVariants.{Utf8}
 use Rattle.tables.specs.Located.{Located}
 use Rattle.events.specs.declared.EventString.{EventString}
@@ -32,11 +33,11 @@ pub record Placed (text : Octets) (e : Event) : Type 0 where
   pub name : LiesPlain text e.name
   pub value : Lies text e.value
 
--- What is wrong with an event before anything is written: not well made or not in its place (16), not text (9), too deep (13); 0 if nothing is.
-unfoldable pub fault_of : Octets → F.State Located → Event → ℕ
+-- What is wrong with an event before anything is written: not well made or not in its place, not text, too deep.
+unfoldable pub fault_of : Octets → F.State Located → Event → Result (Unit {0}) Refusal
 fault_of text v e =
     pick (well_made text e.kind e && goes_on v (event_of e.kind e))
     (pick (all_text text (event_of e.kind e))
-    (pick (opens v.mode (event_of e.kind e) && leb link.depth v.level) DEPTH 0)
-    TEXT)
-    EVENT
+    (pick (opens v.mode (event_of e.kind e) && leb link.depth v.level) (Err R.TheVariants.Depth) (Ok tt))
+    (Err R.TheVariants.Text))
+    (Err R.TheVariants.Event)

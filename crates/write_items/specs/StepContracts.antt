@@ -1,15 +1,15 @@
 -- Contracts of the code, not definitions to be believed. How a step of the code stands for the writer's definition: one event, judged and written.
-use Rattle.std.specs.Prelude.{ℕ, ◌+◌, ◌<◌, ◌≤◌, ◌≡◌, Bool, length}
+use Rattle.std.specs.Prelude.{ℕ, ◌+◌, ◌<◌, ◌≤◌, ◌≡◌, Bool, length, Result, Ok, Err}
 use Rattle.format.specs.Octets.{Octets, Halves, Words}
 use Rattle.format.specs.Tables.{link}
 use Rattle.format.specs.Items as F
+use Rattle.format.specs.Refusals.{refusal_number}
+use Rattle.format.specs.declared.refusals.Refusal.{Refusal}
 use Rattle.tables.specs.Located.{Located}
 use Rattle.states.specs.declared.State.{State}
 use Rattle.states.specs.States.{state_of, coming}
 use Rattle.events.specs.declared.Event.{Event}
 use Rattle.write_names.specs.Promises.{tables_in, InOrder}
-use Rattle.write_items.specs.declared.Step.{Step}
-use Rattle.write_items.specs.declared.Step.TheVariants.{On, Stop}
 use Rattle.write_items.specs.Events.{event_of}
 use Rattle.write_items.specs.Items.{WroteItem, write_item}
 use Rattle.write_items.specs.Steps.{settled, halves_of, judge}
@@ -44,6 +44,6 @@ pub record Went (text : Octets) (room : ℕ) (a : Bool) (st : State) (c : Words)
   pub onward : st.at < next.at
 
 -- Or it is refused by the definition's number.
-abbrev pub Steps : Octets → (room : ℕ) → Bool → State → (c : Words) → Octets → (w : Words) → Event → Step → Octets → (c' w' : Words) (index' : Octets) → Type 0
-Steps text room a st c out w e (On next) out' c' w' index' = Went text room a st c out w e next out' c' w' index'
-Steps text room a st c out w e (Stop n) out' c' w' index' = (verdict text room a st.at (known st c w) e ≡ n) × (1 ≤ n) × (n ≤ 16)
+abbrev pub Steps : Octets → (room : ℕ) → Bool → State → (c : Words) → Octets → (w : Words) → Event → Result State Refusal → Octets → (c' w' : Words) (index' : Octets) → Type 0
+Steps text room a st c out w e (Ok next) out' c' w' index' = Went text room a st c out w e next out' c' w' index'
+Steps text room a st c out w e (Err r) out' c' w' index' = verdict text room a st.at (known st c w) e ≡ refusal_number r

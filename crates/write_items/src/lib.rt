@@ -5,12 +5,3 @@
 pub mod items;
 pub mod output;
 mod records;
-
-use states::State;
-
-// Behind an event that was written: where the writer stands; or its refusal.
-#[derive(Clone, Copy)]
-pub enum Step {
-    On(State),
-    Stop(u32),
-}

@@ -8,20 +8,12 @@ use fields::put::put;
 pub fn clear(out: &mut [u8])
     ensures { out.new ≡ replicate (length out.old) 0 }
 {
-    let mut i = 0;
-    while i < out.len() {
-        out[i] = 0;
-        i += 1;
-    }
+    out.fill(0);
 }
 
 // An end at the half `at`. In the first half of an octet it leaves the second 0; before the second stands another end.
 pub fn put_end(out: &mut [u8], at: usize)
     ensures { out.new ≡ set out.old (at / 2) (end_octet at) }
 {
-    if at % 2 == 0 {
-        put(out, at / 2, 0xF0);
-    } else {
-        put(out, at / 2, 0xFF);
-    }
+    put(out, at / 2, if at % 2 == 0 { 0xF0 } else { 0xFF });
 }

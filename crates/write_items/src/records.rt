@@ -6,61 +6,57 @@ ghost use Rattle.format.specs.Items.{may_start};
 ghost use Rattle.tables.specs.Located.{Located, octets_of};
 ghost use Rattle.events.specs.declared.Event.{Event};
 ghost use Rattle.write_items.specs.Events.{is_absent, is_stretch, is_string, is_prefix, is_namespace, is_value, is_name, no_name, well_made, located_of, name_of, event_of, among_children, is_declaring, is_listing, goes_on, name_text, all_text};
-ghost use Rattle.write_items.specs.RecordContracts.{is_one};
 ghost use Rattle.write_items.specs.Steps.{opens};
 ghost use Rattle.states.specs.States.{mode_of, state_of};
 ghost use Rattle.write_items.specs.Promises.{Lies, LiesPlain, Placed, fault_of};
 
-use events::{Event, EventString, Kind, lies_in, tags};
+use events::{Event, EventString, Kind, lies_in};
 use fields::is_text;
-use format::refusals::{DEPTH, EVENT, TEXT};
+use format::StringForm;
+use format::refusals::Refusal;
 use states::State;
 
 fn is_absent(x: EventString) -> bool
     ensures { result ≡ is_absent x }
 {
-    x.is_absent()
+    matches!(x, EventString::Absent)
 }
 
-// A string in the text area, or one with either of two tags.
-fn is_one(text: &[u8], x: EventString, a: u32, b: u32) -> bool
-    ensures { result ≡ is_one text.now x a b }
-{
-    let tag = x.tag();
-    if tag == tags::STRETCH {
-        return lies_in(text, x.place(), x.size());
-    }
-    tag == a || tag == b
-}
-
+// A string in the text area and in utf-8.
 fn is_stretch(text: &[u8], x: EventString) -> bool
     ensures { result ≡ is_stretch text.now x }
 {
-    is_one(text, x, tags::STRETCH, tags::STRETCH)
+    match x {
+        EventString::Stretch(StringForm::Utf8, place, size) => lies_in(text, place, size),
+        _ => false,
+    }
 }
 
 fn is_prefix(text: &[u8], x: EventString) -> bool
     ensures { result ≡ is_prefix text.now x }
 {
-    is_one(text, x, tags::ABSENT, tags::XML_PREFIX)
+    match x {
+        EventString::Absent | EventString::XmlPrefix => true,
+        _ => is_stretch(text, x),
+    }
 }
 
 fn is_namespace(text: &[u8], x: EventString) -> bool
     ensures { result ≡ is_namespace text.now x }
 {
-    is_one(text, x, tags::ABSENT, tags::XML_NAMESPACE)
+    match x {
+        EventString::Absent | EventString::XmlNamespace => true,
+        _ => is_stretch(text, x),
+    }
 }
 
-// The same in any form, told by the variant alone.
+// A string in the text area, in any form.
 fn is_string(text: &[u8], x: EventString) -> bool
     ensures { result ≡ is_string text.now x }
 {
     match x {
-        EventString::Absent => false,
-        EventString::Empty => false,
         EventString::Stretch(_, place, size) => lies_in(text, place, size),
-        EventString::XmlPrefix => false,
-        EventString::XmlNamespace => false,
+        _ => false,
     }
 }
 
@@ -68,55 +64,48 @@ fn is_value(text: &[u8], x: EventString) -> bool
     ensures { result ≡ is_value text.now x }
 {
     match x {
-        EventString::Absent => false,
         EventString::Empty => true,
-        EventString::Stretch(_, place, size) => lies_in(text, place, size),
-        EventString::XmlPrefix => false,
-        EventString::XmlNamespace => false,
+        _ => is_string(text, x),
     }
 }
 
 // A name's strings: a prefix only with a namespace.
+#[tactic(auto, unfolding(crate::specs::Events::is_name))]
 fn is_name(text: &[u8], e: Event) -> bool
     ensures { result ≡ is_name text.now e }
 {
-    let prefix = e.prefix;
-    let namespace = e.namespace;
-    let name = e.name;
-    is_prefix(text, prefix)
-        && (is_namespace(text, namespace)
-            && (is_stretch(text, name) && (is_absent(prefix) || !is_absent(namespace))))
+    is_prefix(text, e.prefix)
+        && is_namespace(text, e.namespace)
+        && is_stretch(text, e.name)
+        && (is_absent(e.prefix) || !is_absent(e.namespace))
 }
 
+#[tactic(auto, unfolding(crate::specs::Events::no_name))]
 fn no_name(e: Event) -> bool
     ensures { result ≡ no_name e }
 {
-    let prefix = e.prefix;
-    let namespace = e.namespace;
-    is_absent(prefix) && is_absent(namespace)
+    is_absent(e.prefix) && is_absent(e.namespace)
 }
 
 // The strings of a record are as its kind has them.
+#[tactic(auto, unfolding(crate::specs::Events::well_made))]
 fn well_made(text: &[u8], e: Event) -> bool
     ensures { result ≡ well_made text.now e.kind e }
 {
-    let kind = e.kind;
-    let prefix = e.prefix;
-    let namespace = e.namespace;
-    let name = e.name;
-    let value = e.value;
-    match kind {
+    match e.kind {
         Kind::Blank => false,
         Kind::Namespace => {
-            is_prefix(text, prefix)
-                && (is_namespace(text, namespace) && (is_absent(name) && is_absent(value)))
+            is_prefix(text, e.prefix)
+                && is_namespace(text, e.namespace)
+                && is_absent(e.name)
+                && is_absent(e.value)
         }
-        Kind::Start => is_name(text, e) && is_absent(value),
-        Kind::Attribute => is_name(text, e) && is_value(text, value),
-        Kind::Chunk => no_name(e) && (is_absent(name) && is_string(text, value)),
-        Kind::Comment => no_name(e) && (is_absent(name) && is_value(text, value)),
-        Kind::Instruction => no_name(e) && (is_stretch(text, name) && is_value(text, value)),
-        Kind::End => no_name(e) && (is_absent(name) && is_absent(value)),
+        Kind::Start => is_name(text, e) && is_absent(e.value),
+        Kind::Attribute => is_name(text, e) && is_value(text, e.value),
+        Kind::Chunk => no_name(e) && is_absent(e.name) && is_string(text, e.value),
+        Kind::Comment => no_name(e) && is_absent(e.name) && is_value(text, e.value),
+        Kind::Instruction => no_name(e) && is_stretch(text, e.name) && is_value(text, e.value),
+        Kind::End => no_name(e) && is_absent(e.name) && is_absent(e.value),
     }
 }
 
@@ -125,11 +114,13 @@ fn is_text_string(text: &[u8], x: EventString) -> bool
     requires { LiesPlain text.now x }
     ensures { result ≡ is_text (octets_of text.now (located_of x)) }
 {
-    if x.tag() != tags::STRETCH {
-        return true;
+    match x {
+        EventString::Stretch(_, place, size) => {
+            let from = place as usize;
+            is_text(text, from, from + size as usize)
+        }
+        _ => true,
     }
-    let from = x.place() as usize;
-    is_text(text, from, from + x.size() as usize)
 }
 
 // The same of a string in any form.
@@ -149,39 +140,33 @@ fn is_text_value(text: &[u8], x: EventString) -> bool
     }
 }
 
+#[tactic(auto, using(crate::proofs::RecordLaws::name_text_lem))]
 fn name_text(text: &[u8], e: Event) -> bool
     requires { Placed text.now e }
     ensures { result ≡ name_text text.now (name_of e) }
 {
-    let prefix = e.prefix;
-    let namespace = e.namespace;
-    let name = e.name;
-    is_text_string(text, prefix) && (is_text_string(text, namespace) && is_text_string(text, name))
+    is_text_string(text, e.prefix)
+        && is_text_string(text, e.namespace)
+        && is_text_string(text, e.name)
 }
 
 // Every string of the record is text.
+#[tactic(auto, using(crate::proofs::RecordLaws::declaration_text), unfolding(crate::specs::Events::event_of, crate::specs::Events::all_text))]
 fn all_text(text: &[u8], e: Event) -> bool
     requires { Placed text.now e }
     ensures { result ≡ all_text text.now (event_of e.kind e) }
 {
-    let kind = e.kind;
-    let prefix = e.prefix;
-    let namespace = e.namespace;
-    let name = e.name;
-    let value = e.value;
-    match kind {
-        Kind::Blank => true,
-        Kind::Namespace => is_text_string(text, prefix) && is_text_string(text, namespace),
+    match e.kind {
+        Kind::Blank | Kind::End => true,
+        Kind::Namespace => is_text_string(text, e.prefix) && is_text_string(text, e.namespace),
         Kind::Start => name_text(text, e),
-        Kind::Attribute => name_text(text, e) && is_text_value(text, value),
-        Kind::Chunk => is_text_value(text, value),
-        Kind::Comment => is_text_value(text, value),
-        Kind::Instruction => is_text_string(text, name) && is_text_value(text, value),
-        Kind::End => true,
+        Kind::Attribute => name_text(text, e) && is_text_value(text, e.value),
+        Kind::Chunk | Kind::Comment => is_text_value(text, e.value),
+        Kind::Instruction => is_text_string(text, e.name) && is_text_value(text, e.value),
     }
 }
 
-// A child may stand here, also behind a list of attributes that has a member.
+// A child may stand here, also after a list of attributes that has a member.
 fn among_children(mode: usize) -> bool
     ensures { result ≡ among_children (mode_of mode) }
 {
@@ -201,19 +186,11 @@ pub fn is_listing(mode: usize) -> bool
 }
 
 // The record is the first of an element.
+#[tactic(auto, unfolding(crate::specs::Events::event_of))]
 fn opens(mode: usize, kind: Kind) -> bool
     ensures { (e : Event) → result ≡ opens (mode_of mode) (event_of kind e) }
 {
-    match kind {
-        Kind::Blank => false,
-        Kind::Namespace => !is_declaring(mode),
-        Kind::Start => !is_declaring(mode),
-        Kind::Attribute => false,
-        Kind::Chunk => false,
-        Kind::Comment => false,
-        Kind::Instruction => false,
-        Kind::End => false,
-    }
+    matches!(kind, Kind::Namespace | Kind::Start) && !is_declaring(mode)
 }
 
 // An element may start here, or one that started goes on.
@@ -231,44 +208,39 @@ fn in_element(st: State) -> bool
 }
 
 // A document goes on with a record of this kind. What is said of a blank one does not matter: none is well made.
+#[tactic(auto, unfolding(crate::specs::Events::event_of, crate::specs::Events::goes_on))]
 fn goes_on(st: State, kind: Kind) -> bool
     ensures { (v : Vocabulary Located) (e : Event) → result ≡ goes_on (state_of st v) (event_of kind e) }
 {
     match kind {
-        Kind::Blank => in_element(st),
-        Kind::Namespace => takes_element(st),
-        Kind::Start => takes_element(st),
+        Kind::Namespace | Kind::Start => takes_element(st),
         Kind::Attribute => is_listing(st.mode),
-        Kind::Chunk => in_element(st),
-        Kind::Comment => among_children(st.mode),
-        Kind::Instruction => among_children(st.mode),
-        Kind::End => in_element(st),
+        Kind::Comment | Kind::Instruction => among_children(st.mode),
+        Kind::Blank | Kind::Chunk | Kind::End => in_element(st),
     }
 }
 
 // A record of this kind opens an element, and no more may be open.
+#[tactic(auto, unfolding(format::specs::Tables::link))]
 fn too_deep(st: State, kind: Kind) -> bool
     ensures { (e : Event) → result ≡ (opens (mode_of st.mode) (event_of kind e) && leb link.depth st.level) }
 {
     opens(st.mode, kind) && State::LEVELS <= st.level
 }
 
-// What is wrong with a record before anything is written; 0 if nothing is.
-pub fn fault(st: State, text: &[u8], e: Event) -> u32
+// What is wrong with a record before anything is written.
+#[tactic(auto, unfolding(crate::specs::Promises::fault_of))]
+pub fn judge(st: State, text: &[u8], e: Event) -> Result<(), Refusal>
     ensures { (v : Vocabulary Located) → result ≡ fault_of text.now (state_of st v) e }
 {
-    let kind = e.kind;
-    if !well_made(text, e) {
-        return EVENT;
-    }
-    if !goes_on(st, kind) {
-        return EVENT;
+    if !well_made(text, e) || !goes_on(st, e.kind) {
+        return Err(Refusal::Event);
     }
     if !all_text(text, e) {
-        return TEXT;
+        return Err(Refusal::Text);
     }
-    if too_deep(st, kind) {
-        return DEPTH;
+    if too_deep(st, e.kind) {
+        return Err(Refusal::Depth);
     }
-    0
+    Ok(())
 }

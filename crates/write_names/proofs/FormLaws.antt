@@ -2,6 +2,7 @@
 -- Assumes nothing.
 use mathlib.Core.Path.{◌≡◌, refl, sym, ap, ◌∙◌}
 use mathlib.Core.Bool.{true, false}
+use Rattle.std.proofs.Common.{Option, Some, None}
 use mathlib.Core.List.{List, ◌∷◌}
 use Prim.Native.Nat.{ℕ, suc, ◌+◌, ◌-◌, ◌*◌, ◌/◌, ◌^◌, ◌≤◌, ◌<◌}
 use native.Mathlib.Omega.{arith}
@@ -18,8 +19,7 @@ use Rattle.fields.proofs.Laws.{case}
 use Rattle.fields.proofs.Utf8.{told}
 use Rattle.decimal.specs.Words.{shape, word_count}
 use Rattle.decimal.specs.Machine.{least_in}
-use Rattle.decimal.specs.declared.scanning.Found.{Found}
-use Rattle.decimal.specs.declared.scanning.Found.TheVariants.{Integers, NoIntegers}
+use Rattle.decimal.specs.declared.scanning.Integers.{Integers}
 use Rattle.decimal.proofs.Texts.{words_some}
 use Rattle.decimal.proofs.Shapes.{shape_spelled, few_words}
 use Rattle.forms.specs.Streams.{part}
@@ -276,19 +276,19 @@ module _ {bit : ℕ} (b : LayoutBit bit) (x : Octets) (some : 1 ≤ length x) (f
         (choose_other u, record { size = omega arith; some = omega arith; few = omega arith })
 
 -- ---- the integers that were found, or the alphabet
-module _ (n : ℕ) {k w : ℕ} {found : Found} (e : found ≡ Integers k w) where
-  pub few_octets : n ≤ said_most → FewIntegers n found → k * w ≤ said_most * 8
-  few_octets h f = let g : FewIntegers n (Integers k w) = rw e at f in omega (arith, mul-le-mul {n₁ = k} {m₁ = w} {n₂ = said_most} {m₂ = 8} (omega arith) (omega arith))
+module _ (n : ℕ) {x : Integers} {found : Option Integers} (e : found ≡ Some x) where
+  pub few_octets : n ≤ said_most → FewIntegers n found → x.count * x.width ≤ said_most * 8
+  few_octets h f = let g : FewIntegers n (Some x) = rw e at f in omega (arith, mul-le-mul {n₁ = x.count} {m₁ = x.width} {n₂ = said_most} {m₂ = 8} (omega arith) (omega arith))
 
-  pub less_integers : {f : StringForm} → k * w < (n + 1) / 2 → f ≡ with_width w → record { form = f; size = k * w } ≡ or_integers n found
+  pub less_integers : {f : StringForm} → x.count * x.width < (n + 1) / 2 → f ≡ with_width x.width → record { form = f; size = x.count * x.width } ≡ or_integers n found
   unfolding or_integers
-  less_integers l i = rw (e, lt-ltb (k * w) ((n + 1) / 2) l, i)
+  less_integers l i = rw (e, lt-ltb (x.count * x.width) ((n + 1) / 2) l, i)
 
-  pub more_integers : (n + 1) / 2 ≤ k * w → record { form = Numeric; size = (n + 1) / 2 } ≡ or_integers n found
+  pub more_integers : (n + 1) / 2 ≤ x.count * x.width → record { form = Numeric; size = (n + 1) / 2 } ≡ or_integers n found
   unfolding or_integers
-  more_integers l = rw (e, le-ltb (k * w) ((n + 1) / 2) l)
+  more_integers l = rw (e, le-ltb (x.count * x.width) ((n + 1) / 2) l)
 
-pub none_found : (n : ℕ) {found : Found} → found ≡ NoIntegers → record { form = Numeric; size = (n + 1) / 2 } ≡ or_integers n found
+pub none_found : (n : ℕ) {found : Option Integers} → found ≡ None → record { form = Numeric; size = (n + 1) / 2 } ≡ or_integers n found
 unfolding or_integers
 none_found n e = rw e
 

@@ -4,6 +4,7 @@ use mathlib.Core.Path.{◌≡◌, refl, sym, ap, ◌∙◌}
 use mathlib.Core.Bool.{Bool, true, false}
 use mathlib.Core.Option.{Option, none, some}
 use mathlib.Core.List.{List, ◌++◌, map, append_assoc}
+use Rattle.std.specs.Prelude.{Result, Ok, Err}
 use Prim.Native.Nat.{ℕ, suc, ◌+◌, ◌*◌, ◌≤◌, ◌<◌}
 use native.Mathlib.Omega.{arith}
 use borrow.Author.Tests.{eq-eqb, ne_eqb}
@@ -13,6 +14,7 @@ use Rattle.format.specs.Numbers.{pick, spell}
 use Rattle.format.specs.Events.{Name, How, Choice}
 use Rattle.format.specs.Tables.{StringTable, PREFIX, NAMESPACE_NAME, LOCAL_NAME, NameTable, ELEMENT_NAME, ATTRIBUTE_NAME, Triple, Vocabulary, strings, names, adding, adding_name, link}
 use Rattle.format.specs.Names.{has, NameLayout, of_element, of_attribute}
+use Rattle.format.specs.declared.refusals.Refusal.{Refusal}
 use Rattle.fields.specs.PutContracts.{Puts}
 use Rattle.fields.proofs.Puts.{puts_append, puts_octet}
 use Rattle.tables.specs.declared.Row.{Row}
@@ -32,8 +34,6 @@ use Rattle.events.specs.Words.{string_tag}
 use Rattle.write_names.specs.declared.Sought.{Sought}
 use Rattle.write_names.specs.declared.naming.Numbers.{Numbers}
 use Rattle.write_names.specs.declared.QualifiedName.{QualifiedName}
-use Rattle.write_names.specs.declared.Wrote as W
-use Rattle.write_names.specs.declared.Wrote.TheVariants.{Put, Full}
 use Rattle.write_names.specs.Choices.{Wrote, write_id, write_optional, write_name, within}
 use Rattle.write_names.specs.Promises.{string_most, pair_most, name_most, tables_in, InOrder, held_as, Looked, named_of, Held, number_then, triple_for, name_held_as, Proper, New, Tripled, pair_behind, declared_by, Stands, Meets}
 use Rattle.write_names.proofs.Order.{entries_count, triples_are, triples_count, counted_at, order_name, grows_on, grows_id, grows_optional, grows_name, within_grown, full_name}
@@ -227,11 +227,11 @@ module _ (text : List ℕ) (v : Vocabulary Located) (b : ℕ) (p n : Option Loca
   pair_full e = within_grown (grows_optional text NAMESPACE_NAME _ n) e
 
   pub pair-behind : (out : List ℕ) (at h : ℕ) {out₁ out₂ c₁ w₁ i₁ : List ℕ} → out₁ ≡ set out at b → Stands text out₁ (at + 1) string_most h out₂ c₁ w₁ i₁ (write_optional text (table_of 0) v p)
-      → (r : W.Wrote) (out₃ c₂ w₂ i₂ : List ℕ) → Meets text out₂ h string_most r out₃ c₂ w₂ i₂ (write_optional text (table_of 1) (tables_in c₁ w₁) n)
+      → (r : Result ℕ Refusal) (out₃ c₂ w₂ i₂ : List ℕ) → Meets text out₂ h string_most r out₃ c₂ w₂ i₂ (write_optional text (table_of 1) (tables_in c₁ w₁) n)
       → Meets text out at pair_most r out₃ c₂ w₂ i₂ (pair_behind b text v p n)
   unfolding pair_behind table_of
-  pair-behind out at h e s Full out₃ c₂ w₂ i₂ m = rw s.tables at m
-  pair-behind out at h e s (Put r) out₃ c₂ w₂ i₂ m =
+  pair-behind out at h e s (Err f) out₃ c₂ w₂ i₂ m = rw s.tables at m
+  pair-behind out at h e s (Ok r) out₃ c₂ w₂ i₂ m =
       let f = s.few in
       let g = m.few in
       let q = rw s.tables at m in
@@ -282,13 +282,13 @@ module _ (text : List ℕ) (v : Vocabulary Located) (b : ℕ) (x : QualifiedName
       unfolding table_of
       tables_then = then.tables ∙ rw stands.tables
 
-      pub parts-behind : b ≡ x.lead + (layout_of x.table).in_parts_bits + 2 * has (optional_of x.prefix) + has (optional_of x.namespace) → (r : W.Wrote) (c₃ w₃ i₃ : List ℕ)
+      pub parts-behind : b ≡ x.lead + (layout_of x.table).in_parts_bits + 2 * has (optional_of x.prefix) + has (optional_of x.namespace) → (r : Result ℕ Refusal) (c₃ w₃ i₃ : List ℕ)
           → Tripled l c₂ w₂ i₂ x.table k.then r c₃ w₃ i₃ → Meets text out at name_most r out₂ c₃ w₃ i₃ (write_name (layout_of x.table) x.lead text v (named_of x))
       unfolding table_of
-      parts-behind eb Full c₃ w₃ i₃ full =
+      parts-behind eb (Err f) c₃ w₃ i₃ (is, full) =
           let n = triples_count c₂ w₂ then.order.ten x.table proper.0 proper.1 in
-          rw (words_are, ← tables_then) (full_name (tables_in c₂ w₂) (name_table_of x.table) (triple_of k.then) (omega arith))
-      parts-behind eb (Put r) c₃ w₃ i₃ (er, room, ec, e) =
+          rw (words_are, ← tables_then) (is, full_name (tables_in c₂ w₂) (name_table_of x.table) (triple_of k.then) (omega arith))
+      parts-behind eb (Ok r) c₃ w₃ i₃ (er, room, ec, e) =
           let q = rw stands.tables at then.puts in
           let f = stands.few in
           let g = then.few in

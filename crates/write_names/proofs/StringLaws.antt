@@ -3,6 +3,7 @@
 use mathlib.Core.Path.{◌≡◌, refl, sym, ap, ◌∙◌}
 use mathlib.Core.Bool.{true, false}
 use mathlib.Core.List.{List, [], ◌∷◌, map}
+use Rattle.std.specs.Prelude.{Result, Ok, Err}
 use Prim.Native.Nat.{ℕ, suc, ◌+◌, ◌*◌, ◌≤◌, ◌<◌}
 use native.Mathlib.Omega.{arith}
 use borrow.Author.Tests.{eq-eqb, ne_eqb, lt-leb, le-leb, le-ltb, lt-ltb}
@@ -13,6 +14,7 @@ use Rattle.format.specs.Tables.{StringTable, CONTENT_CHARACTER_CHUNK, Vocabulary
 use Rattle.format.specs.Strings.{with_length, Layout, c14, c15}
 use Rattle.format.specs.Names.{has, of_element, of_attribute}
 use Rattle.format.specs.Forms.{form_number, form_of}
+use Rattle.format.specs.declared.refusals.Refusal.{Refusal}
 use Rattle.format.specs.declared.StringForm.{StringForm}
 use Rattle.format.specs.declared.StringForm.TheVariants.{Utf8}
 use Rattle.fields.specs.PutContracts.{Puts}
@@ -34,8 +36,6 @@ use Rattle.events.specs.declared.EventString.TheVariants.{Absent, Empty, Stretch
 use Rattle.events.specs.Records.{located_of, optional_of}
 use Rattle.events.specs.Words.{string_tag, string_place, string_size}
 use Rattle.tables.proofs.Found.{same_refl}
-use Rattle.write_names.specs.declared.Wrote as W
-use Rattle.write_names.specs.declared.Wrote.TheVariants.{Put, Full}
 use Rattle.write_names.specs.declared.Sought.{Sought}
 use Rattle.write_names.specs.declared.Spelling.{Spelling}
 use Rattle.write_names.specs.Choices.{Wrote, write_id, write_optional, write_literal, write_value, worth_adding, within}
@@ -252,11 +252,11 @@ module _ (text c w ix : List ℕ) (t : ℕ) (order : InOrder text c w ix) (x : E
   unfolding write_optional
   optional_absent e out at = rw (absent x e) (record { puts = puts_nothing refl; few = omega arith; tables = refl; order = order })
 
-  pub optional_there : (string_tag x ≡ 0 → ⊥) → (r : W.Wrote) (out out' c' v iv : List ℕ) (at : ℕ) → Meets text out at string_most r out' c' v iv (write_id text (table_of t) (tables_in c w) (located_of x))
+  pub optional_there : (string_tag x ≡ 0 → ⊥) → (r : Result ℕ Refusal) (out out' c' v iv : List ℕ) (at : ℕ) → Meets text out at string_most r out' c' v iv (write_id text (table_of t) (tables_in c w) (located_of x))
       → Meets text out at string_most r out' c' v iv (write_optional text (table_of t) (tables_in c w) (optional_of x))
   unfolding write_optional
-  optional_there n (Put h) out out' c' v iv at m = rw (there x (omega arith)) (record { puts = m.puts; few = m.few; tables = m.tables; order = m.order })
-  optional_there n Full out out' c' v iv at m = rw (there x (omega arith)) m
+  optional_there n (Ok h) out out' c' v iv at m = rw (there x (omega arith)) (record { puts = m.puts; few = m.few; tables = m.tables; order = m.order })
+  optional_there n (Err e) out out' c' v iv at m = rw (there x (omega arith)) m
 
 -- ---- a value, comment, content or chunk
 pub fills_empty : (text : List ℕ) (x : EventString) → Fills text x → string_size x ≡ 0 → x ≡ Empty

@@ -1,5 +1,5 @@
 -- Contracts of the code, not definitions to be believed. How the code's answers stand for the choices' definition: tables and counts in lent words are the vocabulary that they hold.
-use Rattle.std.specs.Prelude.{ℕ, suc, ◌+◌, ◌-◌, ◌*◌, ◌/◌, ◌^◌, ◌<◌, ◌≤◌, ◌≡◌, Bool, true, false, List, [], ◌∷◌, ◌++◌, map, length, get_or, set, eqb, ltb}
+use Rattle.std.specs.Prelude.{ℕ, suc, ◌+◌, ◌-◌, ◌*◌, ◌/◌, ◌^◌, ◌<◌, ◌≤◌, ◌≡◌, Bool, true, false, List, [], ◌∷◌, ◌++◌, map, length, get_or, set, eqb, ltb, Result, Ok, Err, Option as RustOption, Some, None}
 use Rattle.std.proofs.Math.Option.{Option}
 use Rattle.format.specs.Octets.{Octets, Words}
 use Rattle.format.specs.Numbers.{pick}
@@ -9,10 +9,11 @@ use Rattle.format.specs.Strings.{bit, keeping}
 use Rattle.format.specs.Names.{has, NameLayout}
 use Rattle.format.specs.declared.StringForm.{StringForm}
 use Rattle.format.specs.declared.StringForm.TheVariants.{Utf8, Utf16, Numeric, Dates, Short, Int, Long}
+use Rattle.format.specs.declared.refusals.Refusal.{Refusal}
+use Rattle.format.specs.declared.refusals.Refusal.TheVariants.{Full}
 use Rattle.format.specs.Forms.{form_of, numeric, dates, width}
 use Rattle.fields.specs.PutContracts.{Puts}
-use Rattle.decimal.specs.declared.scanning.Found.{Found}
-use Rattle.decimal.specs.declared.scanning.Found.TheVariants.{Integers, NoIntegers}
+use Rattle.decimal.specs.declared.scanning.Integers.{Integers}
 use Rattle.decimal.specs.Words.{shape}
 use Rattle.forms.specs.Packing.{all_letters, in_form}
 use Rattle.tables.specs.declared.Row.{Row}
@@ -27,8 +28,6 @@ use Rattle.events.specs.declared.EventString.{EventString}
 use Rattle.events.specs.declared.EventString.TheVariants.{Absent, Empty, Stretch, XmlPrefix, XmlNamespace}
 use Rattle.events.specs.Records.{located_of, optional_of}
 use Rattle.events.specs.Words.{string_tag}
-use Rattle.write_names.specs.declared.Wrote as W
-use Rattle.write_names.specs.declared.Wrote.TheVariants.{Put, Full}
 use Rattle.write_names.specs.declared.Sought.{Sought}
 use Rattle.write_names.specs.declared.Spelling.{Spelling}
 use Rattle.write_names.specs.declared.Formed.{Formed}
@@ -160,14 +159,14 @@ less_one Long = 4
 unfoldable pub with_width : (w : ℕ) → StringForm
 with_width w = pick (eqb w 2) Short (pick (eqb w 4) Int Long)
 
-unfoldable pub or_integers : (n : ℕ) → Found → Formed
-or_integers n (Integers k w) = pick (ltb (k * w) ((n + 1) / 2)) (record { form = with_width w; size = k * w }) (record { form = Numeric; size = (n + 1) / 2 })
-or_integers n NoIntegers = record { form = Numeric; size = (n + 1) / 2 }
+unfoldable pub or_integers : (n : ℕ) → RustOption Integers → Formed
+or_integers n (Some x) = pick (ltb (x.count * x.width) ((n + 1) / 2)) (record { form = with_width x.width; size = x.count * x.width }) (record { form = Numeric; size = (n + 1) / 2 })
+or_integers n None = record { form = Numeric; size = (n + 1) / 2 }
 
 -- So few that their octets can be counted.
-abbrev pub FewIntegers : (n : ℕ) → Found → Type 0
-FewIntegers n (Integers k w) = (k ≤ n) × (w ≤ 8)
-FewIntegers n NoIntegers = Unit {0}
+abbrev pub FewIntegers : (n : ℕ) → RustOption Integers → Type 0
+FewIntegers n (Some x) = (x.count ≤ n) × (x.width ≤ 8)
+FewIntegers n None = Unit {0}
 
 -- A string has an alphabet for all its characters, or integers whose text it is.
 abbrev pub Fits : StringForm → Octets → Type 0
@@ -239,10 +238,10 @@ pub record New (text : Octets) (v : Vocabulary Located) (x : QualifiedName) (k :
   pub new : 0 ≡ name_held_as (layout_of x.table) text v (named_of x)
 
 -- A row became an entry of its table; or the table is full.
-abbrev pub Tripled : (at : ℕ) (c w : Words) (index : Octets) (table : ℕ) → Row → W.Wrote → (c' w' : Words) (index' : Octets) → Type 0
-Tripled at c w index table x (Put r) c' w' index' =
+abbrev pub Tripled : (at : ℕ) (c w : Words) (index : Octets) (table : ℕ) → Row → Result ℕ Refusal → (c' w' : Words) (index' : Octets) → Type 0
+Tripled at c w index table x (Ok r) c' w' index' =
     (r ≡ at) × (get_or c table 0 < 256) × (c' ≡ set c table (get_or c table 0 + 1)) × ((text : Octets) → NameEntered text table (get_or c table 0) (triple_of x) w index w' index')
-Tripled at c w index table x Full c' w' index' = 256 ≤ get_or c table 0
+Tripled at c w index table x (Err r) c' w' index' = (r ≡ Full) × (256 ≤ get_or c table 0)
 
 -- A prefix and a namespace behind the octet `first`; a namespace declaration (C.12) begins with 110011pn.
 unfoldable pub pair_behind : (first : ℕ) → Octets → Vocabulary Located → (prefix namespace : Option Located) → Wrote Choice
@@ -263,6 +262,6 @@ pub record Stands {H : Type 0} (text out : Octets) (at most r : ℕ) (out' : Oct
   pub order : InOrder text c w index
 
 -- Or a table is full, and the definition's has an entry too many.
-abbrev pub Meets : {H : Type 0} → Octets → Octets → (at most : ℕ) → W.Wrote → Octets → (c w : Words) (index : Octets) → Wrote H → Type 0
-Meets text out at most (Put r) out' c w index d = Stands text out at most r out' c w index d
-Meets text out at most Full out' c w index d = within link d.tables ≡ false
+abbrev pub Meets : {H : Type 0} → Octets → Octets → (at most : ℕ) → Result ℕ Refusal → Octets → (c w : Words) (index : Octets) → Wrote H → Type 0
+Meets text out at most (Ok r) out' c w index d = Stands text out at most r out' c w index d
+Meets text out at most (Err r) out' c w index d = (r ≡ Full) × (within link d.tables ≡ false)

@@ -21,23 +21,17 @@ ghost use Rattle.events.specs.Words.{string_tag};
 ghost use Rattle.write_names.specs.Choices.{write_id, write_optional, field_in, form_for, write_literal, write_value};
 ghost use Rattle.write_names.specs.Promises.{string_most, said_most, value_most, last_place, LayoutBit, plain_most, format_bits, less_one, with_width, FewIntegers, or_integers, HasForm, Chosen, chosen_field, tables_in, InOrder, Suits, Fills, held_as, Looked, Enters, Added, Spells, Fitting, spelled_as, Stands, Meets};
 
-use decimal::scanning::Found;
+use decimal::scanning::Integers;
 use events::EventString;
 use fields::put::{put, put_length, put_number, put_number_at_bit_2, put_part};
 use format::StringForm;
+use format::refusals::Refusal;
 use format::table::{CONTENT_CHARACTER_CHUNK, ELEMENT_NAME};
 pub use naming::{declared, name};
 use tables::{Counts, Row};
 
 // A value, comment, content or chunk that is not longer in UTF-8 is added to its table.
 const SHORT: usize = 5;
-
-// The place behind what was put; or a table is full that must take an entry more.
-#[derive(Clone, Copy)]
-pub enum Wrote {
-    Put(usize),
-    Full,
-}
 
 // A string that was looked up in its table, and its number there; 0 where it has none.
 #[derive(Clone, Copy)]
@@ -202,16 +196,16 @@ fn id(
     out: &mut [u8],
     at: usize,
     x: Sought,
-) -> Wrote
+) -> Result<usize, Refusal>
     requires { InOrder text.now counts.old t.old index.old × (at ≤ last_place) × (1 ≤ string_tag x.string) × Looked text.now counts.old t.old x }
     ensures { Meets text.now out.old at string_most result out.new counts.new t.new index.new (write_id text.now (table_of x.table) (tables_in counts.old t.old) (located_of x.string)) }
 {
     if x.number != 0 {
-        return Wrote::Put(put_number_at_bit_2(out, at, 0x80, x.number));
+        return Ok(put_number_at_bit_2(out, at, 0x80, x.number));
     }
     let table = x.table;
     if Counts::ENTRIES <= counts[table] {
-        return Wrote::Full;
+        return Err(Refusal::Full);
     }
     let string = x.string;
     let place = string.place();
@@ -224,7 +218,7 @@ fn id(
     };
     let h = index::bucket_of(text, place as usize, size as usize);
     added(text, t, counts, index, table, row, h);
-    Wrote::Put(behind)
+    Ok(behind)
 }
 
 // One that may be absent.
@@ -236,13 +230,13 @@ fn optional(
     out: &mut [u8],
     at: usize,
     x: Sought,
-) -> Wrote
+) -> Result<usize, Refusal>
     requires { InOrder text.now counts.old t.old index.old × (at ≤ last_place) × Looked text.now counts.old t.old x }
     ensures { Meets text.now out.old at string_most result out.new counts.new t.new index.new (write_optional text.now (table_of x.table) (tables_in counts.old t.old) (optional_of x.string)) }
 {
     let string = x.string;
     if string.is_absent() {
-        return Wrote::Put(at);
+        return Ok(at);
     }
     id(text, t, counts, index, out, at, x)
 }
@@ -257,7 +251,7 @@ pub fn identified(
     at: usize,
     table: usize,
     x: EventString,
-) -> Wrote
+) -> Result<usize, Refusal>
     requires { InOrder text.now counts.old t.old index.old × (at ≤ last_place) × (1 ≤ string_tag x) × (table < 4) × Suits text.now table x }
     ensures { Meets text.now out.old at string_most result out.new counts.new t.new index.new (write_id text.now (table_of table) (tables_in counts.old t.old) (located_of x)) }
 {
@@ -313,16 +307,16 @@ fn with_width(w: usize) -> StringForm
 }
 
 // The form for a string of n characters of an alphabet: integers where they have fewer octets, of which a length takes no more, and on a tie the alphabet.
-fn or_integers(n: usize, found: Found) -> Formed
+fn or_integers(n: usize, found: Option<Integers>) -> Formed
     requires { (n ≤ said_most) × FewIntegers n found }
     ensures { result ≡ or_integers n found }
 {
     let packed = (n + 1) / 2;
-    if let Found::Integers(k, w) = found {
-        let size = k * w;
+    if let Some(integers) = found {
+        let size = integers.count * integers.width;
         if size < packed {
             return Formed {
-                form: with_width(w),
+                form: with_width(integers.width),
                 size,
             };
         }

@@ -9,9 +9,10 @@ ghost use Rattle.events.specs.Records.{optional_of};
 ghost use Rattle.write_names.specs.Choices.{write_name};
 ghost use Rattle.write_names.specs.Promises.{pair_most, name_most, last_place, tables_in, InOrder, Suits, Looked, Proper, New, named_of, number_then, Tripled, pair_behind, declared_by, Meets};
 
-use crate::{QualifiedName, Sought, Wrote, has, id, number_of, optional, put_name_number};
+use crate::{QualifiedName, Sought, has, id, number_of, optional, put_name_number};
 use events::EventString;
 use fields::put::put;
+use format::refusals::Refusal;
 use format::table::{LOCAL_NAME, NAMESPACE_NAME, PREFIX};
 use tables::{Counts, Row};
 
@@ -52,17 +53,17 @@ fn triple(
     at: usize,
     table: usize,
     x: Row,
-) -> Wrote
+) -> Result<usize, Refusal>
     requires { (length t.old ≡ table_words) × (length counts.old ≡ 10) × (length index.old ≡ slots) × (8 ≤ table) × (table < 10) × (0 ≡ number_of_triple (entries (triple_at t.old) (768 * table) (get_or counts.old table 0)) (triple_of x)) }
     ensures { Tripled at counts.old t.old index.old table x result counts.new t.new index.new }
 {
     let n = counts[table];
     if Counts::ENTRIES <= n {
-        return Wrote::Full;
+        return Err(Refusal::Full);
     }
     index::enter_name(t, index, table, n, x.a, x.b, x.c, 0);
     counts[table] = n + 1;
-    Wrote::Put(at)
+    Ok(at)
 }
 
 // An octet, and the strings that are there.
@@ -74,16 +75,14 @@ fn pair(
     out: &mut [u8],
     at: usize,
     x: Opening,
-) -> Wrote
+) -> Result<usize, Refusal>
     requires { InOrder text.now counts.old t.old index.old × (at + name_most ≤ last_place) × (x.prefix.table ≡ 0) × (x.namespace.table ≡ 1) × Looked text.now counts.old t.old x.prefix × Looked text.now counts.old t.old x.namespace }
     ensures { Meets text.now out.old at pair_most result out.new counts.new t.new index.new (pair_behind x.first text.now (tables_in counts.old t.old) (optional_of x.prefix.string) (optional_of x.namespace.string)) }
 {
     put(out, at, x.first);
     let prefix = x.prefix;
     let namespace = x.namespace;
-    let Wrote::Put(behind) = optional(text, t, counts, index, out, at + 1, prefix) else {
-        return Wrote::Full;
-    };
+    let behind = optional(text, t, counts, index, out, at + 1, prefix)?;
     optional(text, t, counts, index, out, behind, namespace)
 }
 
@@ -97,7 +96,7 @@ fn parts(
     at: usize,
     name: QualifiedName,
     k: Numbers,
-) -> Wrote
+) -> Result<usize, Refusal>
     requires { InOrder text.now counts.old t.old index.old × (at + name_most ≤ last_place) × New text.now (tables_in counts.old t.old) name k × Proper text.now name }
     ensures { Meets text.now out.old at name_most result out.new counts.new t.new index.new (write_name (layout_of name.table) name.lead text.now (tables_in counts.old t.old) (named_of name)) }
 {
@@ -120,17 +119,13 @@ fn parts(
             number: found.b,
         },
     };
-    let Wrote::Put(behind) = pair(text, t, counts, index, out, at, opening) else {
-        return Wrote::Full;
-    };
+    let behind = pair(text, t, counts, index, out, at, opening)?;
     let sought = Sought {
         table: LOCAL_NAME,
         string: local,
         number: found.c,
     };
-    let Wrote::Put(next) = id(text, t, counts, index, out, behind, sought) else {
-        return Wrote::Full;
-    };
+    let next = id(text, t, counts, index, out, behind, sought)?;
     triple(t, counts, index, next, table, then)
 }
 
@@ -143,7 +138,7 @@ pub fn name(
     out: &mut [u8],
     at: usize,
     name: QualifiedName,
-) -> Wrote
+) -> Result<usize, Refusal>
     requires { InOrder text.now counts.old t.old index.old × (at + name_most ≤ last_place) × Proper text.now name }
     ensures { Meets text.now out.old at name_most result out.new counts.new t.new index.new (write_name (layout_of name.table) name.lead text.now (tables_in counts.old t.old) (named_of name)) }
 {
@@ -163,7 +158,7 @@ pub fn name(
     };
     let n = index::find_name(t, index, table, counts[table], then.a, then.b, then.c);
     if n != 0 {
-        return Wrote::Put(put_name_number(out, at, table, name.lead, n));
+        return Ok(put_name_number(out, at, table, name.lead, n));
     }
     let numbers = Numbers { found, then };
     parts(text, t, counts, index, out, at, name, numbers)
@@ -179,7 +174,7 @@ pub fn declared(
     at: usize,
     prefix: EventString,
     namespace: EventString,
-) -> Wrote
+) -> Result<usize, Refusal>
     requires { InOrder text.now counts.old t.old index.old × (at + name_most ≤ last_place) × Suits text.now 0 prefix × Suits text.now 1 namespace }
     ensures { Meets text.now out.old at pair_most result out.new counts.new t.new index.new (declared_by text.now (tables_in counts.old t.old) (optional_of prefix) (optional_of namespace)) }
 {

@@ -1,2 +1,2 @@
 -- Contracts of the code alone: what is written is defined in the crate writer.
-pub mod AheadContracts
+pub mod Promises

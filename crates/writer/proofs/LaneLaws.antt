@@ -14,6 +14,9 @@ use Rattle.format.specs.Events as E
 use Rattle.format.specs.Tables.{Vocabulary, ELEMENT_NAME, names, link}
 use Rattle.format.specs.Strings.{bit}
 use Rattle.format.specs.Items as F
+use Rattle.format.specs.declared.refusals.Refusal.{Refusal}
+use Rattle.std.specs.Prelude as Std
+use Rattle.std.specs.Prelude.{Ok, Err}
 use Rattle.format.specs.Document.{aligned}
 use Rattle.fields.specs.PutContracts.{Puts}
 use Rattle.fields.proofs.Numbers.{numbers_ordered}
@@ -37,11 +40,13 @@ use Rattle.write_items.specs.StepContracts.{item_of, halves_for, verdict}
 use Rattle.write_items.proofs.Faults.{Faultless, fault_free, fault_none, judge_fault, judge_none}
 use Rattle.write_items.proofs.OutputLaws.{held_size, end_written, item_written}
 use Rattle.writer.specs.declared.lane.Lane.{Lane}
+use Rattle.writer.specs.declared.lane.Taken.{Taken}
+use Rattle.writer.specs.declared.lane.Taken.TheVariants as T
 use Rattle.writer.specs.Writing.{Outcome}
 use Rattle.writer.specs.RunContracts.{behind}
-use Rattle.writer.specs.LaneContracts.{SameWords, Known, Taught, Remembered, Filed, Kept, standing, OnWay, Passes, Ahead, listed, Started, Ended, Passable, Passed, Safe}
+use Rattle.writer.specs.LaneContracts.{SameWords, Known, Taught, Remembered, Filed, Kept, standing, OnWay, Recalled, Passes, Ahead, Takes, listed, Started, Ended, Named, Passable, Passed, Safe}
 use Rattle.writer.proofs.AheadLaws.{attribute_first}
-use Rattle.writer.proofs.RunLaws.{behind_on}
+use Rattle.writer.proofs.RunLaws.{behind_on, refusal_some}
 use Rattle.writer.proofs.KnownLaws.{Extends, extends_item, known_kept, known_written, known_new}
 
 -- ---- records by their words
@@ -160,26 +165,25 @@ module _ (text : List ℕ) (v : Vocabulary Located) (k : ℕ) where
   taught_same : (e f : Event) → unplaced e ≡ unplaced f → Taught text v f k → Taught text v e k
   taught_same e f q t = taught_placed e (rw q (taught_unplaced f t))
 
-module _ (w memory : List ℕ) {room : ℕ} {l : Lane} {k : ℕ} (a : Ahead w memory l room k) where
-  taught_here : (n : k ≡ 512 → ⊥) (text : List ℕ) (v : Vocabulary Located) → Remembered (records_of w) text v memory → Taught text v (record_at w (14 * l.i)) k
+module _ (w memory : List ℕ) (i : ℕ) {k : ℕ} (c : Recalled w memory i k) where
+  taught_here : (text : List ℕ) (v : Vocabulary Located) → Remembered (records_of w) text v memory → Taught text v (record_at w (14 * i)) k
   unfolding Remembered
-  taught_here n text v r =
-      let c = (a.start n).0 in
+  taught_here text v r =
       let m = r c.slot c.filled in
       let h = m.0 in
       let e = records_length w in
       let q = record_nth w (get_or memory c.slot 0 / 512) (omega arith) in
-      taught_same text v k (record_at w (14 * l.i)) (record_at w (14 * (get_or memory c.slot 0 / 512))) c.same (rw (← c.number, ← q) m.1)
+      taught_same text v k (record_at w (14 * i)) (record_at w (14 * (get_or memory c.slot 0 / 512))) c.same (rw (← c.number, ← q) m.1)
 
-module _ (w memory : List ℕ) (room : ℕ) {l l' : Lane} {out out' : List ℕ} {k : ℕ} (a : Ahead w memory l room k) where
-  pub end_passes : k ≡ 512 → Ended l out l' out' → Passes w memory room l out l' out'
-  end_passes q p to text v in_tables r o =
-      end_taken to text room (records_of w) v in_tables a.among a.inside a.fits a.limit o (get_or w (14 * l.i + 13) 0) (records_drop w l.i a.there ∙ rw (a.end q)) p
+module _ (w memory : List ℕ) (room : ℕ) {l l' : Lane} {out out' : List ℕ} (a : Ahead w l room) where
+  pub end_passes : Takes w memory l T.End → Ended l out l' out' → Passes w memory room l out l' out'
+  end_passes t p to text v in_tables r o =
+      end_taken to text room (records_of w) v in_tables a.among a.inside a.fits a.limit o (get_or w (14 * l.i + 13) 0) (records_drop w l.i a.there ∙ rw t) p
 
-  pub start_passes : (k ≡ 512 → ⊥) → Started w l out k l' out' → Passes w memory room l out l' out'
+  pub start_passes : {k : ℕ} → Takes w memory l (T.Start k) → Started w l out k l' out' → Passes w memory room l out l' out'
   start_passes n p to text v in_tables r o =
-      let t = taught_here w memory a n text v r in
-      start_taken to text room (records_of w) v in_tables a.among a.inside a.fits a.limit o t (a.start n).1 (records_drop w l.i a.there) _
+      let t = taught_here w memory l.i n.0 text v r in
+      start_taken to text room (records_of w) v in_tables a.among a.inside a.fits a.limit o t n.1 (records_drop w l.i a.there) _
       (sym (bit-listed (records_of w) l.i (record_at w (14 * l.i)) t.kind)) p.octet p.puts p.few p.is
 
 -- ---- each way out of the code
@@ -191,48 +195,40 @@ module _ (w : List ℕ) {l : Lane} {out : List ℕ} (k : ℕ) where
       let z : (l.at + 1) / 2 ≡ aligned l.at / 2 = omega arith in
       record { octet = octet; puts = rw (← b, ← q, ← z) p; few = omega arith; is = rw (← b) is }
 
-  module _ {l' : Lane} {out' : List ℕ} (m : Passable w l k) where
-    pub passed_end : k ≡ 512 → Ended l out l' out' → Passed w l out k l' out'
-    passed_end q p =
+  module _ {l' : Lane} {out' : List ℕ} where
+    pub passed_end : Passable w l T.End → Ended l out l' out' → Passed w l out T.End l' out'
+    passed_end m p =
         let limit = m.limit in
         let level = m.level in
         record {
           at = rw p.is (omega arith);
           level = rw p.is (omega arith);
           next = rw p.is;
-          passes = λ memory room a. end_passes w memory room a q p;
+          passes = λ memory room a t. end_passes w memory room a t p;
         }
 
-    pub passed_start : (k ≡ 512 → ⊥) → Started w l out k l' out' → Passed w l out k l' out'
+    pub passed_start : Passable w l (T.Start k) → Started w l out k l' out' → Passed w l out (T.Start k) l' out'
     unfolding aligned
-    passed_start n p =
+    passed_start m p =
         let limit = m.limit in
-        let level = (m.name n).1 in
+        let level = m.name.2 in
         let few = p.few in
         record {
           at = rw p.is (omega arith);
           level = rw p.is (omega arith);
           next = rw p.is;
-          passes = λ memory room a. start_passes w memory room a n p;
+          passes = λ memory room a t. start_passes w memory room a t p;
         }
 
 -- what is next may be passed
-pub ahead_passable : {w memory : List ℕ} {l : Lane} {room k : ℕ} → Safe w memory l → Ahead w memory l room k → (k ≡ 0 → ⊥) → Passable w l k
-unfolding Filed
-ahead_passable {w} {memory} {l} {k = k} s a n =
-    record {
-      limit = a.limit;
-      inside = a.inside;
-      level = s.level;
-      there = a.there;
-      some = omega arith;
-      name = λ m. let r = (a.start m).0 in let f = s.filed r.slot r.filled in let q = r.number in (omega arith, (a.start m).1);
-    }
+module _ {w memory : List ℕ} {l : Lane} (s : Safe w memory l) where
+  named : (x : Taken) → Takes w memory l x → Named l x
+  unfolding Filed
+  named T.End t = tt
+  named (T.Start k) t = let r = t.0 in let f = s.filed r.slot r.filled in let q = r.number in (omega arith, omega arith, t.1)
 
--- and was, behind what was passed before
-pub passes_on : {w memory : List ℕ} {room : ℕ} {l₀ l l' : Lane} {out₀ out out' : List ℕ} {k : ℕ} → Passed w l out k l' out' → Ahead w memory l room k
-    → Passes w memory room l₀ out₀ l out → Passes w memory room l₀ out₀ l' out'
-passes_on {w} {memory} {room} p a s to text v t r o = p.passes memory room a to text v t r (s to text v t r o)
+  pub ahead_passable : {room : ℕ} {x : Taken} → Ahead w l room → Takes w memory l x → Passable w l x
+  ahead_passable {x = x} a t = record { limit = a.limit; inside = a.inside; level = s.level; there = a.there; name = named x t }
 
 -- ---- what is remembered
 set_cases : (P : ℕ → Type 0) (m : List ℕ) (i x s : ℕ) → P x → P (get_or m s 0) → P (get_or (set m i x) s 0)
@@ -295,10 +291,13 @@ module _ (text : List ℕ) (a : Bool) (v : F.State Located) (e : Event) where
       rw q (known_new text (settled v (E.Start (name_of e))).tables (name_of e) _ (omega arith))
 
   module _ (room at : ℕ) (j : verdict text room a at v e ≡ 0) where
-    faultless_by : (n : ℕ) → fault_of text v e ≡ n → Faultless text v e
+    faultless_by : (r : Std.Result (Unit {0}) Refusal) → fault_of text v e ≡ r → Faultless text v e
     unfolding verdict
-    faultless_by zero q = fault_none text v e q
-    faultless_by (suc n) q = let z = judge_fault text v e room at (item_of text a v e) (halves_for text room a at v e) n q in absurd (omega arith)
+    faultless_by (Ok done) q = fault_none text v e q
+    faultless_by (Err r) q =
+        let z = judge_fault text v e room at (item_of text a v e) (halves_for text room a at v e) r q in
+        let l = refusal_some r in
+        absurd (omega arith)
 
     -- a name more among those of elements is that of a Start
     pub taught_new : e.kind ≡ Start → length (names v.tables ELEMENT_NAME) < length (names (item_of text a v e).state.tables ELEMENT_NAME)

@@ -2,7 +2,7 @@ pub mod ModeLaws
 pub mod AheadLaws
 pub mod RunLaws
 pub mod RanLaws
-pub mod PhaseLaws
+pub mod StartLaws
 pub mod WordLaws
 pub mod KnownLaws
 pub mod LaneLaws

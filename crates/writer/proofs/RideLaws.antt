@@ -1,19 +1,24 @@
 -- The writer over words: a law for each way out of its functions, what a step teaches, and that a ride of the quick lane leaves a run underway.
 -- Assumes nothing.
-use mathlib.Core.Path.{◌≡◌, refl, ap, subst, ◌∙◌}
+use mathlib.Core.Path.{◌≡◌, refl, sym, ap, subst, ◌∙◌}
 use mathlib.Core.Bool.{Bool, true, false}
 use mathlib.Core.List.{List, ◌∷◌}
 use Prim.Native.Nat.{ℕ, suc, ◌+◌, ◌*◌, ◌/◌, ◌≤◌, ◌<◌}
 use native.Mathlib.Omega.{arith}
-use borrow.Author.Tests.{ne_eqb, le-ltb}
+use borrow.Author.Tests.{ne_eqb}
 use lib.Dec.{eqb}
 use lib.ListN.{length, get_or, drop, replicate}
 use Rattle.format.specs.Numbers.{pick}
 use Rattle.format.specs.Tables.{Vocabulary, ELEMENT_NAME, names}
 use Rattle.format.specs.Items as F
-use Rattle.tables.specs.declared.Counts.{Counts}
+use Rattle.format.specs.Refusals.{refusal_number}
+use Rattle.format.specs.declared.refusals.Refusal.{Refusal}
+use Rattle.format.specs.declared.refusals.Refusal.TheVariants.{Event as NoEvent}
+use Rattle.std.specs.Prelude as Std
+use Rattle.std.specs.Prelude.{Ok, Err}
 use Rattle.tables.specs.Located.{Located}
-use Rattle.tables.specs.Kept.{name_table_of, listed, unlisted}
+use Rattle.tables.specs.Kept.{name_table_of}
+use Rattle.tables.specs.Counts.{table_words}
 use Rattle.tables.proofs.Found.{clash}
 use Rattle.states.specs.declared.State.{State}
 use Rattle.states.specs.States.{mode_of, root_of, coming}
@@ -26,22 +31,17 @@ use Rattle.events.specs.FromWords.{record_at, records_of, begins_with, Misnamed}
 use Rattle.events.proofs.FromWords.{records_length, record_nth, records_drop}
 use Rattle.write_names.specs.Promises.{tables_in}
 use Rattle.write_names.proofs.Order.{triples_count, counted_at, within_order}
-use Rattle.write_items.specs.declared.Step.{Step}
-use Rattle.write_items.specs.declared.Step.TheVariants.{On, Stop}
 use Rattle.write_items.specs.Steps.{announced}
-use Rattle.write_items.specs.StepContracts.{Ready, Steps, known, item_of, Went}
+use Rattle.write_items.specs.StepContracts.{Ready, Steps, known, item_of, verdict, Went}
 use Rattle.write_items.proofs.Misnamed.{fault_misnamed}
-use Rattle.write_items.proofs.StepLaws.{step_fault}
-use Rattle.writer.specs.declared.Answer.{Answer}
+use Rattle.write_items.proofs.Faults.{judge_fault}
 use Rattle.writer.specs.declared.lane.Lane.{Lane}
-use Rattle.writer.specs.declared.run.Phase.{Phase}
-use Rattle.writer.specs.declared.run.Phase.TheVariants.{Onward, Halted}
-use Rattle.writer.specs.Writing.{Outcome, Leaves}
-use Rattle.writer.specs.RunContracts.{Underway, Moving, Going, Bounded, Settles, goes_on, from_mode, bit_of}
+use Rattle.writer.specs.Writing.{Outcome}
+use Rattle.writer.specs.RunContracts.{Underway, Going, bit_of}
 use Rattle.writer.specs.LaneContracts.{Taught, Remembered, Filed, Kept, Safe, OnWay, standing, Passes, Onward as Further}
 use Rattle.writer.specs.RideContracts.{Learns, arrived_at, Rides, Leading, Through}
 use Rattle.writer.proofs.RunLaws.{bit-started, underway_number}
-use Rattle.writer.proofs.PhaseLaws.{moving_on, moving_stop, moving_kept, going_bounded}
+use Rattle.writer.proofs.StartLaws.{moved_on, moved_not}
 use Rattle.writer.proofs.LaneLaws.{remembered_none, remembered_kept, remembered_more, remembered_filed, extends_event, taught_new}
 
 -- ---- a Start that is remembered
@@ -131,12 +131,12 @@ module _ (w memory : List ℕ) (room i : ℕ) (st : State) (out : List ℕ) wher
 
 -- ---- the loop
 -- From o says that before its first record the run leads to o; there is something that it leads to, and it leads to all of that still
-module _ (From : Outcome → Type 0) (w text : List ℕ) (room table i : ℕ) where
+module _ (From : Outcome → Type 0) (w text : List ℕ) (room i : ℕ) where
   -- behind i of the records, with what is remembered
   pub record Stepping (st : State) (c out t ix memory : List ℕ) : Type 0 where
     pub to : Outcome
     pub begun : From to
-    pub moving : (o : Outcome) → From o → Moving o (records_of w) text room table i st c out t ix
+    pub moving : (o : Outcome) → From o → Underway o text room (records_of w) i st c out t ix
     pub remembered : Remembered (records_of w) text (tables_in c t) memory
     pub inside : i ≤ length w / 14
 
@@ -144,27 +144,21 @@ module _ (From : Outcome → Type 0) (w text : List ℕ) (room table i : ℕ) wh
   pub record Stepped (before : ℕ) (st : State) (c out t ix memory : List ℕ) : Type 0 where
     pub to : Outcome
     pub begun : From to
-    pub moving : (o : Outcome) → From o → Moving o (records_of w) text room table (i + 1) st c out t ix
+    pub moving : (o : Outcome) → From o → Underway o text room (records_of w) (i + 1) st c out t ix
     pub remembered : Remembered (records_of w) text (tables_in c t) memory
     pub teaches : before < get_or c 8 0 → (record_at w (14 * i)).kind ≡ Start → Taught text (tables_in c t) (record_at w (14 * i)) (get_or c 8 0)
 
--- before the first record, with the counts in words
-module _ (w text : List ℕ) (room table : ℕ) (st : State) (c out t ix : List ℕ) where
+-- before the first record
+module _ (w text : List ℕ) (room : ℕ) (st : State) (c out t ix : List ℕ) where
   abbrev pub Begins : Outcome → Type 0
-  Begins o = Moving o (records_of w) text room table 0 st c out t ix
+  Begins o = Underway o text room (records_of w) 0 st c out t ix
 
-module _ (w text : List ℕ) (room table : ℕ) (st : State) (cs : Counts) (c out t ix : List ℕ) (q : c ≡ listed cs) where
-  pub start_moving : (o : Outcome) → Going o (records_of w) text room table 0 (Onward st cs) out t ix → Begins w text room table st c out t ix o
-  start_moving o g = rw q g
+  pub stepping_start : (n : ℕ) → Leading (records_of w) text room st c out t ix → Stepping Begins w text room 0 st c out t ix (replicate n 0)
+  stepping_start n l = record { to = l.to; begun = l.under; moving = λ o m. m; remembered = remembered_none (records_of w) text (tables_in c t) n; inside = omega arith }
 
-  pub stepping_start : (n : ℕ) → Leading (records_of w) text room table (Onward st cs) out t ix
-      → Stepping (Begins w text room table st c out t ix) w text room table 0 st c out t ix (replicate n 0)
-  stepping_start n l =
-      record { to = l.to; begun = start_moving l.to l.going; moving = λ o m. m; remembered = remembered_none (records_of w) text (tables_in c t) n; inside = omega arith }
-
-module _ {From : Outcome → Type 0} {w text : List ℕ} {room table i : ℕ} {st : State} {c out t ix memory : List ℕ} (s : Stepping From w text room table i st c out t ix memory) where
+module _ {From : Outcome → Type 0} {w text : List ℕ} {room i : ℕ} {st : State} {c out t ix memory : List ℕ} (s : Stepping From w text room i st c out t ix memory) where
   abbrev under : Underway s.to text room (records_of w) i st c out t ix
-  under = (s.moving s.to s.begun).1
+  under = s.moving s.to s.begun
 
   pub stepping_ready : Ready text st c t ix
   stepping_ready = under.ready
@@ -175,41 +169,38 @@ module _ {From : Outcome → Type 0} {w text : List ℕ} {room table i : ℕ} {s
   pub stepping_small : i ≤ 32768
   stepping_small = underway_number under
 
-  module _ (there : i < length w / 14) {n : ℕ} (look : n ≡ from_mode (mode_of st.mode) i (length w / 14)) {a : Bool}
-      (told : a ≡ announced (drop n (records_of w))) {e : Event} (is : e ≡ record_at w (14 * i)) {b : Bool} (bit : b ≡ bit_of (mode_of st.mode) a) (r : Step) (out' c' t' ix' : List ℕ)
-      (step : Steps text room b st c out t e r out' c' t' ix') where
+  module _ (there : i < length w / 14) {e : Event} (is : e ≡ record_at w (14 * i)) {a : Bool} (bit : a ≡ bit_of (mode_of st.mode) (announced (drop i (records_of w)))) (r : Std.Result State Refusal)
+      (out' c' t' ix' : List ℕ) (step : Steps text room a st c out t e r out' c' t' ix') where
     next_is : drop i (records_of w) ≡ e ∷ drop (suc i) (records_of w)
     next_is = rw is (records_drop w i there)
 
-    told_is : a ≡ announced (drop (from_mode (mode_of st.mode) i (length (records_of w))) (records_of w))
-    told_is = told ∙ rw (look, records_length w)
-
-    pub stepped : {next : State} → r ≡ On next → Stepped From w text room table i (get_or c 8 0) next c' out' t' ix' memory
+    pub stepped : {next : State} → r ≡ Ok next → Stepped From w text room i (get_or c 8 0) next c' out' t' ix' memory
     stepped q =
         let g = rw q at step in
         record {
           to = s.to;
           begun = s.begun;
-          moving = λ o m. moving_on o (records_of w) text room table i st c out t ix (s.moving o m) e next_is a told_is b bit r out' c' t' ix' step q;
+          moving = λ o m. moved_on (s.moving o m) next_is bit r out' c' t' ix' step q;
           remembered = step_keeps g (records_of w) memory s.remembered;
           teaches = λ l k. rw is at (step_teaches g stepping_ten l (rw is k));
         }
 
-    pub step_stopped : {k : ℕ} → r ≡ Stop k → length out' ≡ length out → (o : Outcome) → From o → Going o (records_of w) text room table (length (records_of w)) (Halted k i) out' t' ix'
-    step_stopped q kept o m = moving_stop o (records_of w) text room table i st c out t ix (s.moving o m) e next_is a told_is b bit r out' c' t' ix' step q kept
+    pub step_stopped : {k : Refusal} → r ≡ Err k → length out' ≡ length out → (o : Outcome) → From o
+        → Going o (records_of w) text room table_words (length (records_of w)) (Err (record { refusal = k; at = i })) c' out' t' ix'
+    step_stopped q kept o m = moved_not (s.moving o m) next_is bit r out' c' t' ix' step q kept
 
   -- a record that is told apart before it is made, since the step would refuse it
-  pub misnamed_stopped : i < length w / 14 → {n : ℕ} → n ≡ from_mode (mode_of st.mode) i (length w / 14) → {a : Bool} → a ≡ announced (drop n (records_of w)) → Misnamed (record_at w (14 * i))
-      → (o : Outcome) → From o → Going o (records_of w) text room table (length (records_of w)) (Halted 16 i) out t ix
-  misnamed_stopped there look {a} told m =
+  pub misnamed_stopped : i < length w / 14 → Misnamed (record_at w (14 * i)) → (o : Outcome) → From o
+      → Going o (records_of w) text room table_words (length (records_of w)) (Err (record { refusal = NoEvent; at = i })) c out t ix
+  unfolding verdict
+  misnamed_stopped there m =
       let e = record_at w (14 * i) in
-      let b = bit_of (mode_of st.mode) a in
-      step_stopped there look told {e = e} refl {b = b} refl (Stop 16) out c t ix (step_fault text room b st c t e 16 (fault_misnamed text e (known st c t) m) (λ z. omega arith)) refl refl
+      step_stopped there {e = e} refl refl (Err NoEvent) out c t ix (judge_fault text (known st c t) e room st.at _ _ NoEvent (sym (fault_misnamed text e (known st c t) m))) refl refl
 
 -- the quick lane behind it
-module _ {From : Outcome → Type 0} {w text : List ℕ} {room table i before : ℕ} {st : State} {c out t ix memory : List ℕ} (s : Stepped From w text room table i before st c out t ix memory) where
+module _ {From : Outcome → Type 0} {w text : List ℕ} {room i before : ℕ} {st : State} {c out t ix memory : List ℕ} (s : Stepped From w text room i before st c out t ix memory) where
   abbrev ready_then : Ready text st c t ix
-  ready_then = (s.moving s.to s.begun).1.ready
+  ready_then = (s.moving s.to s.begun).ready
 
   pub stepped_few : get_or c 8 0 ≤ 256
   stepped_few = counted_at text c t ix 8 ready_then.order
@@ -224,48 +215,22 @@ module _ {From : Outcome → Type 0} {w text : List ℕ} {room table i before : 
   stepped_filed memory' r = remembered_filed (records_of w) text (tables_in c t) memory' (length w / 14) (records_length w) r
 
   pub stepping_on : (memory' : List ℕ) → Remembered (records_of w) text (tables_in c t) memory' → i < length w / 14 → {l : Lane} {out' : List ℕ}
-      → Rides w memory' room (i + 1) st out l out' → {st' : State} → st' ≡ arrived_at st l → Stepping From w text room table l.i st' c out' t ix memory'
+      → Rides w memory' room (i + 1) st out l out' → {st' : State} → st' ≡ arrived_at st l → Stepping From w text room l.i st' c out' t ix memory'
   stepping_on memory' r h d z =
       rw z
       (record {
         to = s.to;
         begun = s.begun;
-        moving = λ o m. let g = s.moving o m in (g.0, d.under o text c t ix r g.1);
+        moving = λ o m. d.under o text c t ix r (s.moving o m);
         remembered = r;
         inside = d.onward.inside (omega arith);
       })
 
 -- ---- behind the last record
-pub stepped_through : {From : Outcome → Type 0} {w text : List ℕ} {room table i : ℕ} {st : State} {c out t ix memory : List ℕ} → Stepping From w text room table i st c out t ix memory → length w / 14 ≤ i
-    → (cs : Counts) → cs ≡ unlisted c → (o : Outcome) → From o → Going o (records_of w) text room table (length (records_of w)) (Onward st cs) out t ix
-stepped_through {w = w} {i = i} s h cs q o m =
+pub stepped_through : {From : Outcome → Type 0} {w text : List ℕ} {room i : ℕ} {st : State} {c out t ix memory : List ℕ} → Stepping From w text room i st c out t ix memory → length w / 14 ≤ i
+    → (o : Outcome) → From o → Going o (records_of w) text room table_words (length (records_of w)) (Ok st) c out t ix
+stepped_through {w = w} {i = i} s h o m =
     let b = s.inside in
     let n = records_length w in
     let z : i ≡ length (records_of w) = omega arith in
-    rw z at (moving_kept cs q (s.moving o m))
-
-module _ (es : List Event) (text : List ℕ) (room table : ℕ) (out w ix : List ℕ) {p : Phase} where
-  pub leading_onward : {st : State} {cs : Counts} → p ≡ Onward st cs → Leading es text room table p out w ix → Leading es text room table (Onward st cs) out w ix
-  leading_onward q g = rw q at g
-
-  pub through_onward : {st : State} {cs : Counts} → p ≡ Onward st cs → (p' : Phase) (out' w' ix' : List ℕ) → Through es text room table (Onward st cs) out w ix p' out' w' ix'
-      → Through es text room table p out w ix p' out' w' ix'
-  through_onward q p' out' w' ix' t = rw q t
-
-  pub through_halted : {k n : ℕ} → p ≡ Halted k n → Through es text room table p out w ix (Halted k n) out w ix
-  through_halted q = rw q (λ to g. g)
-
-over : (p : Phase) (n m : ℕ) → m ≤ n → goes_on p n m ≡ false
-over (Onward st cs) n m h = le-ltb n m h
-over (Halted k at) n m h = refl
-
--- behind the last record
-module _ (to : Outcome) (w text : List ℕ) (room table : ℕ) (p : Phase) (out t ix : List ℕ) (g : Going to (records_of w) text room table (length (records_of w)) p out t ix) where
-  going_all : Going to (records_of w) text room table (length w / 14) p out t ix
-  going_all = rw (records_length w) at g
-
-  pub through_bounded : Bounded (length w / 14) p
-  through_bounded = going_bounded to (records_of w) text room table (length w / 14) p out t ix going_all
-
-  pub through_settled : length t ≡ table → (r : Answer) (out' t' : List ℕ) → Settles room (length t) (length w / 14) p out t r out' t' → Leaves r out' t' to
-  through_settled long r out' t' h = let n = records_length w in (rw long at h) to (records_of w) text ix going_all (over p _ _ (omega arith))
+    (refl, rw z at (s.moving o m))

@@ -16,13 +16,19 @@ use Rattle.format.specs.Events as E
 use Rattle.format.specs.Events.{Item, ◌by◌}
 use Rattle.format.specs.Items as F
 use Rattle.format.specs.Document.{halves, aligned, beginning}
-use Rattle.tables.specs.declared.Counts.{Counts}
+use Rattle.format.specs.Refusals.{refusal_number}
+use Rattle.format.specs.declared.refusals.Fault.{Fault}
+use Rattle.format.specs.declared.refusals.Refusal as R
+use Rattle.format.specs.declared.refusals.Refusal.{Refusal}
+use Rattle.std.specs.Prelude as Std
+use Rattle.std.specs.Prelude.{Ok, Err}
 use Rattle.tables.specs.Located.{Located}
 use Rattle.tables.specs.Counts.{table_words}
 use Rattle.tables.specs.Rows.{vocabulary}
-use Rattle.tables.specs.Kept.{listed, Clean}
+use Rattle.tables.specs.Kept.{listed, unlisted, Clean}
 use Rattle.tables.specs.Told.{told_accepted}
 use Rattle.tables.proofs.Laws.{entries_are, counts_are}
+use Rattle.index.proofs.Counted.{words-listed}
 use Rattle.states.specs.declared.State.{State}
 use Rattle.states.specs.States.{mode_of, root_of, fresh}
 use Rattle.states.proofs.Modes.{mode_content, coming_low}
@@ -33,20 +39,35 @@ use Rattle.tables.proofs.Found.{both_true}
 use Rattle.write_head.specs.Given.{given_of}
 use Rattle.write_head.specs.Head.{tables_of, head_octets}
 use Rattle.write_head.specs.Promises.{Opened}
-use Rattle.write_items.specs.declared.Step.{Step}
-use Rattle.write_items.specs.declared.Step.TheVariants.{On, Stop}
 use Rattle.write_items.specs.Events.{event_of, is_content, among_children, goes_on, well_made}
 use Rattle.write_items.specs.Items.{write_item}
 use Rattle.write_items.specs.Steps.{announced, is_attribute, fits, judge, settled, joined}
 use Rattle.write_items.specs.OutputContracts.{end_octet}
 use Rattle.write_items.specs.StepContracts.{known, item_of, halves_for, verdict, Steps}
 use Rattle.write_items.proofs.OutputLaws.{head_held, joined_head, held_length, held_size, document_end_held}
-use Rattle.writer.specs.declared.Answer.{Answer}
-use Rattle.writer.specs.declared.Answer.TheVariants.{Accepted, Refused}
 use Rattle.writer.specs.Writing.{Result, written, refusal, plus, finish, run, Outcome, outcome, refusing}
 use Rattle.writer.specs.RanContracts.{reached}
 use Rattle.writer.specs.RunContracts.{Foretold, behind, remains, Underway, Finishes}
 use Rattle.writer.proofs.AheadLaws.{announced_on}
+
+-- a refusal's number is not that of what is accepted
+pub refusal_some : (r : Refusal) → 1 ≤ refusal_number r
+refusal_some R.TheVariants.Size = omega arith
+refusal_some R.TheVariants.Truncated = omega arith
+refusal_some R.TheVariants.Header = omega arith
+refusal_some R.TheVariants.OptionalPart = omega arith
+refusal_some R.TheVariants.Code = omega arith
+refusal_some R.TheVariants.Padding = omega arith
+refusal_some R.TheVariants.Range = omega arith
+refusal_some R.TheVariants.Format = omega arith
+refusal_some R.TheVariants.Text = omega arith
+refusal_some R.TheVariants.Index = omega arith
+refusal_some R.TheVariants.Repeat = omega arith
+refusal_some R.TheVariants.Full = omega arith
+refusal_some R.TheVariants.Depth = omega arith
+refusal_some R.TheVariants.Room = omega arith
+refusal_some R.TheVariants.Structure = omega arith
+refusal_some R.TheVariants.Event = omega arith
 
 -- ---- the attribute bit
 pub bit-started : (a b : Bool) → Foretold (F.after_start a) b
@@ -143,14 +164,14 @@ module _ {to : Outcome} {text : List ℕ} {room : ℕ} {es : List Event} {i : �
   underway_number = let l = u.ready.at in let m = u.small in omega arith
 
   -- a step with the next event
-  module _ {e : Event} (d : drop i es ≡ e ∷ drop (suc i) es) {a : Bool} (b : a ≡ announced (drop i es)) (r : Step) (out' c' w' ix' : List ℕ) (p : Steps text room a st c out w e r out' c' w' ix') where
+  module _ {e : Event} (d : drop i es ≡ e ∷ drop (suc i) es) {a : Bool} (b : a ≡ announced (drop i es)) (r : Std.Result State Refusal) (out' c' w' ix' : List ℕ) (p : Steps text room a st c out w e r out' c' w' ix') where
     leads_here : behind u.hs (run link text room st.at (known st c w) i (e ∷ drop (suc i) es)) (length out) ≡ to
     leads_here = rw d at u.leads
 
     stepped : Steps text room (announced (e ∷ drop (suc i) es)) st c out w e r out' c' w' ix'
     stepped = rw (b ∙ ap announced d) at p
 
-    pub underway_on : {next : State} → r ≡ On next → Underway to text room es (i + 1) next c' out' w' ix'
+    pub underway_on : {next : State} → r ≡ Ok next → Underway to text room es (i + 1) next c' out' w' ix'
     underway_on {next} q =
         let g = rw q at stepped in
         let l = u.small in
@@ -167,16 +188,16 @@ module _ {to : Outcome} {text : List ℕ} {room : ℕ} {es : List Event} {i : �
           leads = rw (g.state, grown.place, add-one i, held_size grown.holds) (sym (behind_on text room st.at (known st c w) e (drop (suc i) es) i u.hs (length out) g.judged) ∙ leads_here);
         }
 
-    pub run_refused : {n : ℕ} → r ≡ Stop n → refusing n i (length out) table_words ≡ to
-    run_refused {n} q =
+    pub run_refused : {k : Refusal} → r ≡ Err k → refusing (refusal_number k) i (length out) table_words ≡ to
+    run_refused {k} q =
         let g = rw q at stepped in
-        sym (ap (λ (x : Result). behind u.hs x (length out)) (run_stop text room st.at (known st c w) e (drop (suc i) es) i n g.0 g.1)) ∙ leads_here
+        sym (ap (λ (x : Result). behind u.hs x (length out)) (run_stop text room st.at (known st c w) e (drop (suc i) es) i (refusal_number k) g (refusal_some k))) ∙ leads_here
 
 -- the end behind the last event
-pub run_finished : {to : Outcome} {text : List ℕ} {room : ℕ} {es : List Event} {i : ℕ} {st : State} {cs : Counts} {out w ix : List ℕ} → Underway to text room es i st (listed cs) out w ix → length es ≤ i
-    → (r : Answer) (out' : List ℕ) → Finishes room st cs out i r out' → remains (length out) table_words r out' w ≡ to
+pub run_finished : {to : Outcome} {text : List ℕ} {room : ℕ} {es : List Event} {i : ℕ} {st : State} {c out w ix : List ℕ} → Underway to text room es i st c out w ix → length es ≤ i
+    → (r : Std.Result ℕ Fault) (out' : List ℕ) → Finishes room st out i r out' → remains (length out) table_words r c out' w ≡ to
 unfolding run
-run_finished {text = text} {es = es} {w = w} {ix = ix} u l r out' f = f text w ix u.hs u.ready u.holds ∙ (rw (drop_of_length-le es l) at u.leads)
+run_finished {text = text} {es = es} {c = c} {w = w} {ix = ix} u l r out' f = f text c w ix u.hs u.ready u.holds ∙ (rw (drop_of_length-le es l) at u.leads)
 
 -- ---- the document's end
 module _ (text : List ℕ) (room at : ℕ) where
@@ -192,26 +213,25 @@ whole-octets : (at : ℕ) → aligned (aligned (suc at)) / 2 ≡ (at + 2) / 2
 unfolding aligned
 whole-octets at = omega arith
 
-module _ (room : ℕ) (st : State) (cs : Counts) (out : List ℕ) (i : ℕ) where
+module _ (room : ℕ) (st : State) (out : List ℕ) (i : ℕ) where
   abbrev complete : Bool
   complete = is_content (mode_of st.mode) && (eqb st.level 0 && root_of st.root)
 
-  pub finish_owed : false ≡ complete → Finishes room st cs out i (Refused 16 i) out
+  pub finish_owed : false ≡ complete → Finishes room st out i (Err (record { refusal = R.TheVariants.Event; at = i })) out
   unfolding finish
-  finish_owed e text w ix hs g h = rw (← e)
+  finish_owed e text c w ix hs g h = rw (← e)
 
   module _ (e : true ≡ complete) where
-    pub finish_full : min room 16384 < (st.at + 2) / 2 → Finishes room st cs out i (Refused 14 i) out
+    pub finish_full : min room 16384 < (st.at + 2) / 2 → Finishes room st out i (Err (record { refusal = R.TheVariants.Room; at = i })) out
     unfolding finish
-    finish_full l text w ix hs g h = rw (← e, fits_not text room st.at l)
+    finish_full l text c w ix hs g h = rw (← e, fits_not text room st.at l)
 
     pub finish_written : (st.at + 2) / 2 ≤ min room 16384 → {out' : List ℕ} → out' ≡ set out (st.at / 2) (end_octet st.at)
-        → Finishes room st cs out i (Accepted ((st.at + 2) / 2) cs) out'
+        → Finishes room st out i (Ok ((st.at + 2) / 2)) out'
     unfolding finish Clean
-    finish_written l {out'} p text w ix hs g h =
+    finish_written l {out'} p text c w ix hs g h =
         let held = document_end_held h p in
         let n = held_length held ∙ whole-octets st.at in
         let o = held.is in
-        let c = counts_are cs w in
-        let t = sym (entries_are (vocabulary cs w) ∙ ap listed c) in
-        rw (← e, fits_so text room st.at l) (λ j. record { answer = Accepted (sym n j) (sym c j); told = told_accepted (sym n j) (t j); out = o j; tables = sym g.order.clean j })
+        let t = sym (entries_are (vocabulary (unlisted c) w) ∙ ap listed (counts_are (unlisted c) w) ∙ words-listed c g.order.ten) in
+        rw (← e, fits_so text room st.at l) (λ j. record { told = told_accepted (sym n j) (t j); out = o j; tables = sym g.order.clean j })

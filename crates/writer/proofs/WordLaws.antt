@@ -3,50 +3,48 @@
 use mathlib.Core.Path.{◌≡◌, refl, ap, ◌∙◌}
 use mathlib.Core.Bool.{Bool, true, false}
 use mathlib.Core.List.{List}
-use Prim.Native.Nat.{ℕ, ◌≤◌, ◌<◌}
+use Prim.Native.Nat.{ℕ, ◌+◌, ◌*◌, ◌^◌, ◌≤◌, ◌<◌}
+use native.Mathlib.Omega.{arith}
 use borrow.Author.Tests.{eq-eqb, ne_eqb, le-leb, lt-leb}
 use lib.Dec.{eqb, leb}
 use lib.ListN.{length, replicate}
+use Rattle.std.specs.Prelude as Std
+use Rattle.std.specs.Prelude.{Ok, Err}
 use Rattle.format.specs.Numbers.{pick}
 use Rattle.format.specs.Tables.{link}
-use Rattle.tables.specs.declared.Counts.{Counts}
-use Rattle.tables.specs.Kept.{listed}
+use Rattle.format.specs.Refusals.{refusal_number}
+use Rattle.format.specs.declared.refusals.Fault.{Fault}
 use Rattle.events.specs.FromWords.{records_of}
-use Rattle.writer.specs.declared.Answer.{Answer}
-use Rattle.writer.specs.declared.Answer.TheVariants.{Accepted, Refused}
-use Rattle.writer.specs.Writing.{Outcome, Leaves, write_of}
-use Rattle.writer.specs.Words.{answer_word, count_words, WordsLeft, leaving, nothing, in_words, write_words, WordsMeasured, measured, measure_words}
+use Rattle.writer.specs.Writing.{Outcome, write_of}
+use Rattle.writer.specs.Words.{WordsLeft, leaving, nothing, in_words, write_words, WordsMeasured, measured, measure_words}
 use Rattle.writer.specs.RanContracts.{reached, ran_of, ran_words}
+use Rattle.writer.specs.RunContracts.{remains, left_by}
 use Rattle.writer.proofs.RanLaws.{ran_whole}
 
 -- ---- by cases
 module _ (given records text : List ℕ) (room size t c : ℕ) where
-  module _ (n : c ≡ 10 → ⊥) where
-    pub words_size : 16384 < length text → nothing 1 size t c ≡ ran_words given records text room size t c
+  pub words_size : 16384 < length text → nothing 1 size t c ≡ ran_words given records text room size t c
+  unfolding ran_words link
+  words_size l = rw (lt-leb _ _ l)
+
+  module _ (short : length text ≤ 16384) where
+    pub words_counts : (c ≡ 10 → ⊥) → nothing 14 size t c ≡ ran_words given records text room size t c
     unfolding ran_words link
-    words_size l = rw (lt-leb _ _ l)
+    words_counts n = rw (le-leb _ _ short, ne_eqb _ _ n)
 
-    pub words_counts : length text ≤ 16384 → nothing 14 size t c ≡ ran_words given records text room size t c
-    unfolding ran_words link
-    words_counts l = rw (le-leb _ _ l, ne_eqb _ _ n)
+    module _ (ten : c ≡ 10) where
+      words_are : in_words (ran_of given (records_of records) text room size t) ≡ ran_words given records text room size t c
+      unfolding ran_words link
+      words_are = rw (le-leb _ _ short, eq-eqb _ _ ten)
 
-  module _ (b : c ≡ 10) where
-    size-first : (s : Bool) → leb (length text) 16384 ≡ s → in_words (ran_of given (records_of records) text room size t) ≡ ran_words given records text room size t c
-    unfolding ran_words ran_of write_of in_words link
-    size-first true e = rw (e, eq-eqb _ _ b)
-    size-first false e = rw (e, b)
-
-    -- the call answered y
-    module _ (y : Answer) {out w : List ℕ} (p : Leaves y out w (ran_of given (records_of records) text room size t)) {n : ℕ} (f : n ≡ answer_word y) where
-      words_are : leaving n out w (count_words y) ≡ ran_words given records text room size t c
+      -- the run answered r
+      pub words_written : (r : Std.Result ℕ Fault) (d out w : List ℕ) → remains size t r d out w ≡ ran_of given (records_of records) text room size t
+          → left_by r size t c out w d ≡ ran_words given records text room size t c
       unfolding in_words
-      words_are = (λ i. leaving ((f ∙ ap answer_word p.0) i) (p.2 i) (p.3 i) (count_words (p.0 i))) ∙ size-first _ refl
-
-      pub words_refused : {k place : ℕ} → y ≡ Refused k place → {u : List ℕ} → u ≡ replicate c 0 → leaving n out w u ≡ ran_words given records text room size t c
-      words_refused q e = ap (leaving n out w) (e ∙ ap (λ (k : ℕ). replicate k 0) b) ∙ (rw q at words_are)
-
-      pub words_accepted : {octets : ℕ} {d : Counts} → y ≡ Accepted octets d → {u : List ℕ} → u ≡ listed d → leaving n out w u ≡ ran_words given records text room size t c
-      words_accepted q e = rw e (rw q at words_are)
+      words_written (Ok n) d out w e = let z : n * 2 ^ 32 ≡ n * 2 ^ 32 + (0 * 32 + 0) = omega arith in ap (λ (k : ℕ). leaving k out w d) z ∙ ap in_words e ∙ words_are
+      words_written (Err f) d out w e =
+          let z : f.at * 32 + refusal_number f.refusal ≡ 0 * 2 ^ 32 + (f.at * 32 + refusal_number f.refusal) = omega arith in
+          (λ i. nothing (z i) size t (ten i)) ∙ ap in_words e ∙ words_are
 
 -- ---- writing, with room for the output's length, and measuring, which looks at none of the output
 module _ (given records text : List ℕ) where

@@ -1,6 +1,6 @@
 -- Contracts of the code, not definitions to be believed. The quick lane over words: what it remembers of Starts that were written, and how the records that it takes are events of the run.
-use Rattle.std.specs.Prelude.{ℕ, ◌+◌, ◌-◌, ◌*◌, ◌/◌, ◌%◌, ◌<◌, ◌≤◌, ◌≡◌, Bool, true, false, List, map, length, get_or, drop, set}
-use Rattle.std.proofs.Math.Option.{Option, none, some}
+use Rattle.std.specs.Prelude.{ℕ, ◌+◌, ◌-◌, ◌*◌, ◌/◌, ◌%◌, ◌<◌, ◌≤◌, ◌≡◌, Bool, true, false, List, map, length, get_or, drop, set, Option, Some, None}
+use Rattle.std.proofs.Math.Option as M
 use Rattle.format.specs.Octets.{Octets, Halves, Words}
 use Rattle.format.specs.Numbers.{spell, numbers}
 use Rattle.format.specs.Events.{Name}
@@ -11,7 +11,7 @@ use Rattle.format.specs.Document.{aligned}
 use Rattle.fields.specs.PutContracts.{Puts}
 use Rattle.tables.specs.Located.{Located, octets_of}
 use Rattle.tables.specs.Search.{number_in, number_of_triple}
-use Rattle.events.specs.declared.Kind.TheVariants.{Start}
+use Rattle.events.specs.declared.Kind.TheVariants as K
 use Rattle.events.specs.declared.Event.{Event}
 use Rattle.events.specs.Records.{blank, placed, unplaced, end_record}
 use Rattle.events.specs.FromWords.{record_at, records_of, begins_with}
@@ -19,6 +19,8 @@ use Rattle.write_names.specs.Choices.{within}
 use Rattle.write_items.specs.Events.{well_made, name_of, name_text}
 use Rattle.write_items.specs.OutputContracts.{Holds, end_octet}
 use Rattle.writer.specs.declared.lane.Lane.{Lane}
+use Rattle.writer.specs.declared.lane.Taken.{Taken}
+use Rattle.writer.specs.declared.lane.Taken.TheVariants.{End, Start}
 use Rattle.writer.specs.Writing.{run, Outcome}
 use Rattle.writer.specs.RunContracts.{behind}
 
@@ -30,23 +32,23 @@ pub record SameWords (w : Words) (a : ℕ) (u : Words) (b : ℕ) : Type 0 where
 
 -- ---- names whose numbers are known
 -- A string that may be absent has the number k in its table, 0 if it is absent.
-abbrev pub HasNumber : Octets → StringTable → Vocabulary Located → Option Located → ℕ → Type 0
-HasNumber text t v none k = k ≡ 0
-HasNumber text t v (some x) k = (number_in (map (octets_of text) (strings v t)) (octets_of text x) ≡ k) × (1 ≤ k)
+abbrev pub HasNumber : Octets → StringTable → Vocabulary Located → M.Option Located → ℕ → Type 0
+HasNumber text t v M.none k = k ≡ 0
+HasNumber text t v (M.some x) k = (number_in (map (octets_of text) (strings v t)) (octets_of text x) ≡ k) × (1 ≤ k)
 
 -- The tables hold the name of an element, with its strings, and k is its number.
 pub record Known (text : Octets) (v : Vocabulary Located) (x : Name Located) (k : ℕ) : Type 0 where
   pub triple : Triple
   pub prefix : HasNumber text PREFIX v x.prefix triple.prefix
   pub namespace : HasNumber text NAMESPACE_NAME v x.namespace triple.namespace
-  pub local : HasNumber text LOCAL_NAME v (some x.local) triple.local
+  pub local : HasNumber text LOCAL_NAME v (M.some x.local) triple.local
   pub is : number_of_triple (names v ELEMENT_NAME) triple ≡ k
   pub held : 1 ≤ k
 
 -- The record is a Start that is well made and text, and the tables hold its name with the number k.
 pub record Taught (text : Octets) (v : Vocabulary Located) (e : Event) (k : ℕ) : Type 0 where
-  pub kind : e.kind ≡ Start
-  pub made : well_made text Start e ≡ true
+  pub kind : e.kind ≡ K.Start
+  pub made : well_made text K.Start e ≡ true
   pub texts : name_text text (name_of e) ≡ true
   pub few : k ≤ 256
   pub known : Known text v (name_of e) k
@@ -66,6 +68,10 @@ pub record Recalled (w memory : Words) (i k : ℕ) : Type 0 where
   pub filled : 0 < get_or memory slot 0
   pub number : get_or memory slot 0 % 512 ≡ k
   pub same : unplaced (record_at w (14 * i)) ≡ unplaced (record_at w (14 * (get_or memory slot 0 / 512)))
+
+abbrev pub RecalledBy : (w memory : Words) (i : ℕ) → Option ℕ → Type 0
+RecalledBy w memory i (Some k) = Recalled w memory i k
+RecalledBy w memory i None = Unit {0}
 
 -- Start i is remembered with the number k.
 pub record Kept (memory : Words) (i k : ℕ) (memory' : Words) : Type 0 where
@@ -100,15 +106,22 @@ pub record Onward (i j n : ℕ) : Type 0 where
   pub on : i ≤ j
   pub inside : i ≤ n → j ≤ n
 
--- What is next is 512 for an End, or the number of a remembered Start's name; it fits, and it may stand there.
-pub record Ahead (w memory : Words) (l : Lane) (room k : ℕ) : Type 0 where
+-- Something is next: it fits, and a record of the lane may stand there.
+pub record Ahead (w : Words) (l : Lane) (room : ℕ) : Type 0 where
   pub among : l.listing ≡ false
   pub inside : 0 < l.level
   pub fits : l.at / 2 + 5 ≤ room
   pub limit : l.at / 2 + 5 ≤ 16384
   pub there : l.i < length w / 14
-  pub end : k ≡ 512 → record_at w (14 * l.i) ≡ placed (get_or w (14 * l.i + 13) 0) end_record
-  pub start : (k ≡ 512 → ⊥) → Recalled w memory l.i k × (l.level < 32)
+
+-- It is an End, or a Start whose name is remembered with this number.
+abbrev pub Takes : (w memory : Words) → Lane → Taken → Type 0
+Takes w memory l End = record_at w (14 * l.i) ≡ placed (get_or w (14 * l.i + 13) 0) end_record
+Takes w memory l (Start k) = Recalled w memory l.i k × (l.level < 32)
+
+abbrev pub Next : (w memory : Words) → Lane → (room : ℕ) → Option Taken → Type 0
+Next w memory l room (Some x) = Ahead w l room × Takes w memory l x
+Next w memory l room None = Unit {0}
 
 -- Whether an attribute is behind record i.
 abbrev pub listed : Words → ℕ → Bool
@@ -126,16 +139,19 @@ pub record Ended (l : Lane) (out : Octets) (l' : Lane) (out' : Octets) : Type 0 
   pub is : l' ≡ record { at = l.at + 1; level = l.level - 1; i = l.i + 1; listing = false }
 
 -- What is next may be put, and was.
-pub record Passable (w : Words) (l : Lane) (k : ℕ) : Type 0 where
+abbrev pub Named : Lane → Taken → Type 0
+Named l End = Unit {0}
+Named l (Start k) = (1 ≤ k) × (k ≤ 256) × (l.level < 32)
+
+pub record Passable (w : Words) (l : Lane) (x : Taken) : Type 0 where
   pub limit : l.at / 2 + 5 ≤ 16384
   pub inside : 0 < l.level
   pub level : l.level ≤ 32
   pub there : l.i < length w / 14
-  pub some : 1 ≤ k
-  pub name : (k ≡ 512 → ⊥) → (k ≤ 256) × (l.level < 32)
+  pub name : Named l x
 
-pub record Passed (w : Words) (l : Lane) (out : Octets) (k : ℕ) (l' : Lane) (out' : Octets) : Type 0 where
+pub record Passed (w : Words) (l : Lane) (out : Octets) (x : Taken) (l' : Lane) (out' : Octets) : Type 0 where
   pub at : l'.at ≤ 32768
   pub level : l'.level ≤ 32
   pub next : l'.i ≡ l.i + 1
-  pub passes : (memory : Words) (room : ℕ) → Ahead w memory l room k → Passes w memory room l out l' out'
+  pub passes : (memory : Words) (room : ℕ) → Ahead w l room → Takes w memory l x → Passes w memory room l out l' out'

@@ -1,5 +1,5 @@
 -- Contracts of the code, not definitions to be believed. What a call leaves that judges by another room than the length of its output: measuring has no output, and judges by that of the longest document.
-use Rattle.std.specs.Prelude.{ℕ, List, [], length, replicate, take, eqb, leb}
+use Rattle.std.specs.Prelude.{ℕ, List, length, replicate, take, eqb, leb}
 use Rattle.std.proofs.lemmas.List.Edits.{sets}
 use Rattle.format.specs.Octets.{Octets, Words}
 use Rattle.format.specs.Numbers.{pick}
@@ -7,19 +7,12 @@ use Rattle.format.specs.Tables.{link}
 use Rattle.format.specs.Refusals.{SIZE, ROOM}
 use Rattle.events.specs.declared.Event.{Event}
 use Rattle.events.specs.FromWords.{records_of}
-use Rattle.writer.specs.declared.Answer.{Answer}
-use Rattle.writer.specs.declared.Answer.TheVariants.{Accepted, Refused}
 use Rattle.writer.specs.Writing.{Outcome, write_of}
 use Rattle.writer.specs.Words.{WordsLeft, nothing, in_words}
 
--- The document that this answer gives, in an output that holds it.
-abbrev pub document_in : Answer → Octets → Octets
-document_in (Accepted n c) out = take n out
-document_in (Refused n p) out = []
-
--- The same in an output of `size` octets: as much of the document as it reaches, and 0 behind it.
+-- The same in an output of `size` octets: as much of the document as it reaches, and 0 behind it. A refusal counts no octets.
 abbrev pub reached : (size : ℕ) → Outcome → Outcome
-reached size o = record { answer = o.answer; told = o.told; out = sets (replicate size 0) 0 (document_in o.answer o.out); tables = o.tables }
+reached size o = record { told = o.told; out = sets (replicate size 0) 0 (take o.told.count o.out); tables = o.tables }
 
 -- What a call leaves in an output of `size` octets that judges by `room`, from events and from words.
 unfoldable pub ran_of : (given : Words) → List Event → Octets → (room size table : ℕ) → Outcome

@@ -1,8 +1,11 @@
 -- Contracts of the code, not definitions to be believed. The writer over words: which Starts are remembered, and the quick lane between two steps of a run.
+use Rattle.std.specs.Prelude as Std
 use Rattle.std.specs.Prelude.{ℕ, ◌*◌, ◌/◌, ◌<◌, ◌≡◌, List, length}
 use Rattle.format.specs.Octets.{Octets, Words}
 use Rattle.format.specs.Numbers.{pick}
 use Rattle.format.specs.Tables.{Vocabulary}
+use Rattle.format.specs.declared.refusals.Fault.{Fault}
+use Rattle.tables.specs.Counts.{table_words}
 use Rattle.tables.specs.Located.{Located}
 use Rattle.states.specs.declared.State.{State}
 use Rattle.events.specs.declared.Kind.TheVariants.{Start}
@@ -10,7 +13,6 @@ use Rattle.events.specs.declared.Event.{Event}
 use Rattle.events.specs.FromWords.{record_at, records_of}
 use Rattle.write_names.specs.Promises.{tables_in}
 use Rattle.writer.specs.declared.lane.Lane.{Lane}
-use Rattle.writer.specs.declared.run.Phase.{Phase}
 use Rattle.writer.specs.Writing.{Outcome}
 use Rattle.writer.specs.RunContracts.{Underway, Going}
 use Rattle.writer.specs.LaneContracts.{Taught, Remembered, Onward}
@@ -31,11 +33,11 @@ pub record Rides (w memory : Words) (room i : ℕ) (st : State) (out : Octets) (
       → Underway o text room (records_of w) l.i (arrived_at st l) c out' t index
 
 -- Before the events es, a run leads to something.
-pub record Leading (es : List Event) (text : Octets) (room table : ℕ) (p : Phase) (out : Octets) (w : Words) (index : Octets) : Type 0 where
+pub record Leading (es : List Event) (text : Octets) (room : ℕ) (st : State) (c : Words) (out : Octets) (w : Words) (index : Octets) : Type 0 where
   pub to : Outcome
-  pub going : Going to es text room table 0 p out w index
+  pub under : Underway to text room es 0 st c out w index
 
--- The events es were taken, all or up to the first refusal, and what it led to it leads to still: p, out, w and the index became p', out', w' and index'.
-abbrev pub Through : List Event → Octets → (room table : ℕ) → Phase → (out : Octets) (w : Words) (index : Octets) → Phase → (out' : Octets) (w' : Words) (index' : Octets) → Type 0
-Through es text room table p out w index p' out' w' index' =
-    (o : Outcome) → Going o es text room table 0 p out w index → Going o es text room table (length es) p' out' w' index'
+-- The events es were taken, all or up to the first refusal, and what it led to it leads to still: the state, c, out, w and the index became r, c', out', w' and index'.
+abbrev pub Through : List Event → Octets → (room : ℕ) → State → (c : Words) (out : Octets) (w : Words) (index : Octets) → Std.Result State Fault → (c' : Words) (out' : Octets) (w' : Words) (index' : Octets) → Type 0
+Through es text room st c out w index r c' out' w' index' =
+    (o : Outcome) → Underway o text room es 0 st c out w index → Going o es text room table_words (length es) r c' out' w' index'

@@ -6,15 +6,7 @@ use Rattle.format.specs.Tables.{Version}
 use Rattle.format.specs.Refusals.{SIZE, ROOM}
 use Rattle.tables.specs.Told.{whole_word}
 use Rattle.events.specs.FromWords.{records_of}
-use Rattle.writer.specs.declared.Answer.{Answer}
-use Rattle.writer.specs.Writing.{told, Outcome, write_of}
-
--- The octet count above the low 32 bits; in them 0, or the event's number times 32 plus the refusal's.
-abbrev pub answer_word : Answer → ℕ
-answer_word a = whole_word (told a)
-
-abbrev pub count_words : Answer → Words
-count_words a = (told a).counts
+use Rattle.writer.specs.Writing.{Outcome, write_of}
 
 -- What a call answers and leaves: the answer, every octet of the output, every word for tables and counts.
 pub record WordsLeft : Type 0 where
@@ -29,8 +21,10 @@ leaving answer out tables counts = record { answer = answer; out = out; tables =
 abbrev pub nothing : (number room tables counts : ℕ) → WordsLeft
 nothing k r t c = leaving k (replicate r 0) (replicate t 0) (replicate c 0)
 
+-- An outcome in words. The answer has the octet count above the low 32 bits, and in them 0, or the event's number times 32 plus
+-- the refusal's.
 unfoldable pub in_words : Outcome → WordsLeft
-in_words o = leaving (answer_word o.answer) o.out o.tables (count_words o.answer)
+in_words o = leaving (whole_word o.told) o.out o.tables o.told.counts
 
 -- From the words given for the head and the records of these words, over this text area, with r octets of output and t and c words for tables and counts lent: SIZE (1), then the room of the
 -- counts, which are the tables' (14), both at place 0; then what writing with r octets and t table words leaves.

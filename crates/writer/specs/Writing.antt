@@ -1,13 +1,15 @@
 -- The writer's definition: what it answers and leaves in the lent room, for every input.
-use Rattle.std.specs.Prelude.{ℕ, zero, suc, ◌+◌, ◌-◌, ◌*◌, ◌≡◌, ◌&&◌, List, [], ◌∷◌, ◌++◌, length, replicate, eqb, leb}
+use Rattle.std.specs.Prelude as Std
+use Rattle.std.specs.Prelude.{ℕ, zero, suc, ◌+◌, ◌-◌, ◌*◌, ◌≡◌, ◌&&◌, List, [], ◌∷◌, ◌++◌, length, replicate, eqb, leb, Ok, Err}
 use Rattle.format.specs.Octets.{Octets, Halves, Words}
 use Rattle.format.specs.Numbers.{pick}
 use Rattle.format.specs.Events.{Item, ◌by◌}
 use Rattle.format.specs.Tables.{Vocabulary, Version}
 use Rattle.format.specs.Items.{State}
 use Rattle.format.specs.Document.{pad, beginning}
-use Rattle.format.specs.Refusals.{SIZE, ROOM, EVENT}
-use Rattle.tables.specs.Counts.{counts_of, table_words, entry_words, words_of}
+use Rattle.format.specs.Refusals.{SIZE, ROOM, EVENT, refusal_number}
+use Rattle.format.specs.declared.refusals.Fault.{Fault}
+use Rattle.tables.specs.Counts.{table_words, entry_words, words_of}
 use Rattle.tables.specs.Kept.{listed}
 use Rattle.tables.specs.Told.{Told, told_accepted, told_refused, entries_of}
 use Rattle.events.specs.declared.Event.{Event}
@@ -17,8 +19,7 @@ use Rattle.write_head.specs.Head.{tables_of, head_octets, fault_of_head}
 use Rattle.write_items.specs.Events.{event_of, is_content}
 use Rattle.write_items.specs.Items.{WroteItem, write_item}
 use Rattle.write_items.specs.Steps.{announced, settled, fits, halves_of, judge, joined}
-use Rattle.writer.specs.declared.Answer as A
-use Rattle.writer.specs.declared.Answer.TheVariants.{Accepted, Refused}
+use Rattle.writer.specs.declared.Accepted.{Accepted}
 
 -- Items with their choices, the halves they are written as, and what is known at the end; or the refusal and the event's number.
 pub data Result : Type 0 where
@@ -60,29 +61,27 @@ module _ (ver : Version) (text : Octets) (room : ℕ) where
       ]
 
 -- What the requirements' table says of each answer.
-abbrev pub told : A.Answer → Told
-told (Accepted n c) = told_accepted n (listed c)
-told (Refused k p) = told_refused k p
+abbrev pub told : Std.Result Accepted Fault → Told
+told (Ok a) = told_accepted a.octets (listed a.counts)
+told (Err f) = told_refused (refusal_number f.refusal) f.at
 
--- What a call answers and leaves: the answer, as an enum and in the requirements' numbers, every octet of the output, every table word.
+-- What a call answers, in the requirements' numbers, and what it leaves: every octet of the output, every table word.
 pub record Outcome : Type 0 where
-  pub answer : A.Answer
   pub told : Told
   pub out : Octets
   pub tables : Words
 
--- A call answered and left this.
-abbrev pub Leaves : A.Answer → (out : Octets) (tables : Words) → Outcome → Type 0
-Leaves r out tables o = (r ≡ o.answer) × (told r ≡ o.told) × (out ≡ o.out) × (tables ≡ o.tables)
+-- A call answered and left this. No two answers are told alike.
+abbrev pub Leaves : Std.Result Accepted Fault → (out : Octets) (tables : Words) → Outcome → Type 0
+Leaves r out tables o = (told r ≡ o.told) × (out ≡ o.out) × (tables ≡ o.tables)
 
 -- A refusal blanks all the room that was lent.
 abbrev pub refusing : ℕ → ℕ → ℕ → ℕ → Outcome
-refusing n p room table = record { answer = Refused n p; told = told_refused n p; out = replicate room 0; tables = replicate table 0 }
+refusing n p room table = record { told = told_refused n p; out = replicate room 0; tables = replicate table 0 }
 
 abbrev pub accepting : Octets → Vocabulary Located → ℕ → Outcome
 accepting s v room =
     record {
-      answer = Accepted (length s) (counts_of v);
       told = told_accepted (length s) (entries_of v);
       out = s ++ replicate (room - length s) 0;
       tables = words_of entry_words v;

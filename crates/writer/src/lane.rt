@@ -1,11 +1,11 @@
-// A quick lane over words: Ends, and Starts whose words, but for the place, are those of an earlier one that is remembered with its name's number. Such records need no judging and
-// no search; any other is left to the step.
+// A quick lane over words: Ends, and Starts whose words, but for the place, are those of an earlier one that is remembered with its
+// name's number. Such records need no judging and no search; any other is left to the step.
 ghost use Rattle.std.specs.Prelude.{◌≡◌, true, ◌+◌, ◌*◌, ◌/◌, ◌^◌, ◌<◌, ◌≤◌, length, get_or, replicate};
 ghost use Rattle.events.specs.Records.{placed, unplaced, end_record};
 ghost use Rattle.events.specs.FromWords.{record_at};
-ghost use Rattle.writer.specs.LaneContracts.{SameWords, Filed, Recalled, Kept, Safe, Passes, Ahead, Started, Ended, Passable, Passed, Onward};
+ghost use Rattle.writer.specs.LaneContracts.{SameWords, Filed, RecalledBy, Kept, Safe, Passes, Next, Started, Ended, Passable, Passed, Onward};
 
-use events::{RECORD, is_kind, kinds, strings};
+use events::{Kind, RECORD, is_kind, kinds, strings};
 use fields::put::put_number;
 use states::State;
 use write_items::items::attribute_bit;
@@ -26,12 +26,15 @@ pub const SLOTS: usize = 128;
 // A remembered Start is the record's number times this, plus its name's number.
 const NAMES: u32 = 512;
 
-// What is next, where it is no name's number: nothing for the lane; or an End.
-const NOTHING: u32 = 0;
+// What the lane takes: an End, or a Start by its name's number.
+#[derive(Clone, Copy)]
+enum Taken {
+    End,
+    Start(u32),
+}
 
-const AN_END: u32 = NAMES;
-
-// Where the writer stands inside the root, behind a Start or among children: the place in halves, the open elements, the next record, and whether attributes follow.
+// Where the writer stands inside the root, after a Start or among children: the place in halves, the open elements, the next record,
+// and whether attributes follow.
 #[derive(Clone, Copy)]
 pub struct Lane {
     pub at: usize,
@@ -97,20 +100,16 @@ fn record_of(m: u32) -> usize
     (m / NAMES) as usize
 }
 
-// The number of the name of record i, if it is the same as a Start that is remembered; else 0.
-fn recalled(w: &[u32], memory: &[u32; SLOTS], i: usize) -> u32
+// The number of the name of record i, if it is the same as a Start that is remembered.
+fn recalled(w: &[u32], memory: &[u32; SLOTS], i: usize) -> Option<u32>
     requires { (i < length w.now / 14) × Filed memory.now (length w.now / 14) }
-    ensures { (result < 512) × ((result ≡ 0 → ⊥) → Recalled w.now memory.now i result) }
+    ensures { RecalledBy w.now memory.now i result }
 {
-    let s = slot(w, i);
-    let m = memory[s];
-    if m == 0 {
-        return NOTHING;
+    let m = memory[slot(w, i)];
+    if m != 0 && same_record(w, i, record_of(m)) {
+        return Some(m % NAMES);
     }
-    if same_record(w, i, record_of(m)) {
-        return m % NAMES;
-    }
-    NOTHING
+    None
 }
 
 // The kinds that the lane takes. Most records are of another, and are left to the step at once.
@@ -119,36 +118,26 @@ fn is_of_lane(kind: u32) -> bool {
 }
 
 // What is next. In front of the last octets that the room has everything is left to the step, which finds out what does not fit.
-fn next(w: &[u32], memory: &[u32; SLOTS], l: Lane, room: usize) -> u32
+fn next(w: &[u32], memory: &[u32; SLOTS], l: Lane, room: usize) -> Option<Taken>
     requires { Safe w.now memory.now l }
-    ensures { (result ≡ 0 → ⊥) → Ahead w.now memory.now l room result }
+    ensures { Next w.now memory.now l room result }
 {
-    if l.listing {
-        return NOTHING;
+    if l.listing || w.len() / RECORD <= l.i {
+        return None;
     }
-    if w.len() / RECORD <= l.i {
-        return NOTHING;
+    if !is_of_lane(w[RECORD * l.i]) || l.level == 0 {
+        return None;
     }
-    if !is_of_lane(w[RECORD * l.i]) {
-        return NOTHING;
-    }
-    if l.level == 0 {
-        return NOTHING;
-    }
-    let octets = l.at / 2 + START_OCTETS;
-    if room < octets {
-        return NOTHING;
-    }
-    if fields::OCTETS < octets {
-        return NOTHING;
+    if room.min(fields::OCTETS) < l.at / 2 + START_OCTETS {
+        return None;
     }
     if is_end(w, l.i) {
-        return AN_END;
+        return Some(Taken::End);
     }
     if State::LEVELS <= l.level {
-        return NOTHING;
+        return None;
     }
-    recalled(w, memory, l.i)
+    Some(Taken::Start(recalled(w, memory, l.i)?))
 }
 
 impl Lane {
@@ -157,7 +146,7 @@ impl Lane {
         requires { (self.at ≤ 32768) × (self.level ≤ 32) × (self.i < length w.now / 14) × (1 ≤ k) × (k ≤ 256) }
         ensures { Started w.now self out.old k result out.new }
     {
-        let a = is_kind(w, self.i + 1, kinds::ATTRIBUTE);
+        let a = is_kind(w, self.i + 1, Kind::Attribute);
         let at = put_number(out, (self.at + 1) / 2, NAME_BIT, attribute_bit(a), k);
         Lane {
             at: 2 * at,
@@ -181,14 +170,14 @@ impl Lane {
     }
 
     // The record that is next.
-    fn pass(self, w: &[u32], out: &mut [u8], k: u32) -> Lane
-        requires { Passable w.now self k }
-        ensures { Passed w.now self out.old k result out.new }
+    fn pass(self, w: &[u32], out: &mut [u8], next: Taken) -> Lane
+        requires { Passable w.now self next }
+        ensures { Passed w.now self out.old next result out.new }
     {
-        if k == AN_END {
-            return self.closed(out);
+        match next {
+            Taken::End => self.closed(out),
+            Taken::Start(k) => self.opened(w, out, k),
         }
-        self.opened(w, out, k)
     }
 
     // As far as the lane goes.
@@ -197,10 +186,8 @@ impl Lane {
         ensures { Safe w.now memory.now result × Onward self.i result.i (length w.now / 14) × Passes w.now memory.now room self out.old result out.new }
     {
         let mut l = self;
-        let mut k = next(w, memory, l, room);
-        while k != NOTHING {
-            l = l.pass(w, out, k);
-            k = next(w, memory, l, room);
+        while let Some(taken) = next(w, memory, l, room) {
+            l = l.pass(w, out, taken);
         }
         l
     }

@@ -7,12 +7,12 @@ mod lane;
 mod run;
 mod steps;
 
-pub use run::{Phase, measure_words, prepared, write_words};
+pub use run::{begun, ended, measure_words, wipe, write_words};
 use tables::Counts;
 
-// Accepted, with the number of octets and the ten counts; or the refusal's number and the event's.
+// An accepted document: the number of its octets, and how many entries each of its ten tables has.
 #[derive(Clone, Copy)]
-pub enum Answer {
-    Accepted(u32, Counts),
-    Refused(u32, u32),
+pub struct Accepted {
+    pub octets: u32,
+    pub counts: Counts,
 }

@@ -1,20 +1,16 @@
 // The records of words one by one: a step, then the quick lane as far as it goes.
 ghost use Rattle.std.specs.Prelude.{◌≡◌, ◌/◌, ◌<◌, ◌≤◌, length};
-ghost use Rattle.format.specs.Numbers.{pick};
 ghost use Rattle.events.specs.FromWords.{records_of};
-ghost use Rattle.writer.specs.declared.run.Phase.TheVariants.{Onward};
 ghost use Rattle.writer.specs.LaneContracts.{Filed};
+ghost use Rattle.writer.specs.RunContracts.{Small};
 ghost use Rattle.writer.specs.RideContracts.{arrived_at, Learns, Rides, Leading, Through};
 
-use crate::ahead;
+use crate::ahead::announces;
 use crate::lane::{Lane, SLOTS, remember};
-use crate::run::{Phase, bit, look_from};
-use events::{RECORD, is_kind, kinds, names_in_utf8};
-use format::refusals::EVENT;
+use events::{Kind, RECORD, is_kind, names_in_utf8};
+use format::refusals::{Fault, Refusal};
 use format::table::ELEMENT_NAME;
 use states::State;
-use tables::Counts;
-use write_items::Step;
 use write_items::items::step;
 
 // Record i, with which the names of elements became n, is remembered if it is a Start that added its name: there were fewer before.
@@ -22,13 +18,9 @@ fn learn(memory: &mut [u32; SLOTS], records: &[u32], i: usize, before: u32, n: u
     requires { (i < length records.now / 14) × (i ≤ 32768) × (n ≤ 256) }
     ensures { Learns records.now i before n memory.old memory.new }
 {
-    if n <= before {
-        return;
+    if before < n && is_kind(records, i, Kind::Start) {
+        remember(memory, records, i, n);
     }
-    if !is_kind(records, i, kinds::START) {
-        return;
-    }
-    remember(memory, records, i, n);
 }
 
 // The records that the quick lane takes from number i on: it goes inside the root, among children.
@@ -49,26 +41,13 @@ fn ride(
         i,
         listing: false,
     };
-    if st.mode != State::CONTENT {
-        return from;
-    }
-    if st.root == 0 {
+    if st.mode != State::CONTENT || st.root == 0 {
         return from;
     }
     from.run(records, memory, out, room)
 }
 
-// The mode behind the lane: an attribute list, if it ends with a Start that has attributes.
-fn mode_behind(mode: usize, listing: bool) -> usize
-    ensures { result ≡ pick listing 1 mode }
-{
-    if listing {
-        return State::LISTING;
-    }
-    mode
-}
-
-// Where the lane let the writer off.
+// Where the lane let the writer off: in an attribute list, if it ends with a Start that has attributes.
 fn arrived(st: State, l: Lane) -> State
     ensures { result ≡ arrived_at st l }
 {
@@ -76,49 +55,43 @@ fn arrived(st: State, l: Lane) -> State
         at: l.at,
         level: l.level,
         root: st.root,
-        mode: mode_behind(st.mode, l.listing),
+        mode: if l.listing { State::LISTING } else { st.mode },
     }
 }
 
-// From the state before the first record.
+// From the state before the first record to that after the last. The lane takes any number of records between two steps.
 pub fn steps(
     records: &[u32],
     text: &[u8],
     out: &mut [u8],
     room: usize,
     t: &mut [u32],
+    counts: &mut [u32],
     index: &mut [u8],
     first: State,
-    start: Counts,
-) -> Phase
-    requires { Leading (records_of records.now) text.now room (length t.old) (Onward first start) out.old t.old index.old }
-    ensures { Through (records_of records.now) text.now room (length t.old) (Onward first start) out.old t.old index.old result out.new t.new index.new }
+) -> Result<State, Fault>
+    requires { Leading (records_of records.now) text.now room first counts.old out.old t.old index.old }
+    ensures { Through (records_of records.now) text.now room first counts.old out.old t.old index.old result counts.new out.new t.new index.new × Small result }
 {
+    let n = records.len() / RECORD;
     let mut memory = [0u32; SLOTS];
-    let mut counts = [0u32; Counts::TABLES];
-    tables::put_counts(&mut counts, start);
     let mut st = first;
     let mut i = 0;
-    while i < records.len() / RECORD {
-        let a = ahead::announced_words(records, look_from(st.mode, i, records.len() / RECORD));
+    while i < n {
         if !names_in_utf8(records, i) {
-            return Phase::Halted(EVENT, i as u32);
+            return Err(Refusal::Event.at(i));
         }
         let e = events::from_words(records, i);
+        let a = announces(st.mode, records, i);
         let before = counts[ELEMENT_NAME];
-        let b = bit(st.mode, a);
-        match step(st, text, t, &mut counts, index, out, room, e, b) {
-            Step::On(next) => {
-                learn(&mut memory, records, i, before, counts[ELEMENT_NAME]);
-                let l = ride(next, records, &memory, out, room, i + 1);
-                st = arrived(next, l);
-                i = l.i;
-            }
-            Step::Stop(number) => {
-                return Phase::Halted(number, i as u32);
-            }
-        }
+        let next = match step(st, text, t, counts, index, out, room, e, a) {
+            Ok(next) => next,
+            Err(refusal) => return Err(refusal.at(i)),
+        };
+        learn(&mut memory, records, i, before, counts[ELEMENT_NAME]);
+        let l = ride(next, records, &memory, out, room, i + 1);
+        st = arrived(next, l);
+        i = l.i;
     }
-    let kept = tables::counts_in(&counts);
-    Phase::Onward(st, kept)
+    Ok(st)
 }

@@ -1,9 +1,10 @@
-// One octet of a line after the other: each goes to the words of a record, or of what is given for the head, or to the text area.
-use crate::area::{first_same, put_octet, spells};
+// One octet of a line after the other: each goes to the words of a record, or of what is given for the head, or to
+// the text area.
+use crate::area::{Room, Stretch, part, put_octet};
 use crate::head_lines;
-use crate::sums::{low, next, plus};
-use events::{PLACE, RECORD, kinds, strings, tags};
+use events::{RECORD, strings, tags};
 use itoa::Buffer;
+use std::fmt;
 
 // What is wrong with a line.
 #[derive(Clone, Copy)]
@@ -17,12 +18,51 @@ pub enum Fault {
     Last,
     After,
     Cut,
-    // Of head lines: no table's letter, tables out of their order, no number, too many lines, a line behind an event line.
+    // Of head lines: no table's letter, tables out of their order, no number, too many lines, a line after an event
+    // line.
     Table,
     Order,
     Number,
     Many,
     Late,
+}
+
+impl fmt::Display for Fault {
+    fn fmt<W: fmt::Write>(&self, f: &mut fmt::Formatter<W>) -> fmt::Result {
+        f.write_str(match self {
+            Fault::Letter => "a line starts with H, N, S, A, T, C, P, E or end",
+            Fault::Space => "one space stands before a string",
+            Fault::String => "a string starts with - or =",
+            Fault::Digit => "a string's octets are pairs of hex digits",
+            Fault::Fewer => "the line ends before its last string",
+            Fault::More => "the line goes on after its last string",
+            Fault::Last => "the last line is end and the number of event lines",
+            Fault::After => "no line follows end",
+            Fault::Cut => "its line end is missing",
+            Fault::Table => "a head line names its table by p, n, l, o, u, v, c, s, E or A",
+            Fault::Order => "the tables of head lines come in the order p n l o u v c s E A",
+            Fault::Number => "a listed name is three numbers",
+            Fault::Many => "there are at most 32768 head lines",
+            Fault::Late => "head lines come before event lines",
+        })
+    }
+}
+
+// The first line that is not in the format, by its number, and what is wrong with it.
+#[derive(Clone, Copy)]
+pub struct Wrong {
+    number: u64,
+    fault: Fault,
+}
+
+impl fmt::Display for Wrong {
+    fn fmt<W: fmt::Write>(&self, f: &mut fmt::Formatter<W>) -> fmt::Result {
+        write!(
+            f,
+            "line {} is not in the format: {}",
+            self.number, self.fault
+        )
+    }
 }
 
 // What the next octet belongs to.
@@ -35,18 +75,19 @@ pub enum Phase {
     Pair,
     // The second digit of a pair, with the value of the first.
     Half(u8),
-    // A head line: the space behind its H, its table's letter, a number's first digit, and its next with the value so far.
+    // A head line: the space after its H, its table's letter, a number's first digit, and its next with the value so
+    // far.
     Head,
     Table,
     Number,
-    Digits(u64),
-    // The last line, with how many octets are there behind its e.
+    Digits(u32),
+    // The last line, with how many octets are there after its e.
     Last(usize),
     Over,
-    Wrong(Fault),
 }
 
-// The line at hand, and what the lines before it filled.
+// The line at hand, and what the lines before it filled. Sums stop at the top, which no input reaches; so none needs a
+// contract.
 #[derive(Clone, Copy)]
 pub struct Line {
     // From 1.
@@ -57,7 +98,7 @@ pub struct Line {
     pub from: usize,
     pub word: usize,
     // Strings or numbers that the line still has to have, and whether it has numbers.
-    pub left: u32,
+    pub left: usize,
     pub numbers: bool,
     // The line at hand is a head line; the table of the last one, and how many there were.
     pub heading: bool,
@@ -75,72 +116,24 @@ pub struct State {
     pub phase: Phase,
 }
 
-// Blank for a letter that no event has.
-fn kind_of(letter: u8) -> u32 {
-    match letter {
-        b'N' => kinds::NAMESPACE,
-        b'S' => kinds::START,
-        b'A' => kinds::ATTRIBUTE,
-        b'T' => kinds::CHUNK,
-        b'C' => kinds::COMMENT,
-        b'P' => kinds::INSTRUCTION,
-        b'E' => kinds::END,
-        _ => kinds::BLANK,
-    }
-}
+pub type Step = Result<State, Wrong>;
 
-// The word of a record at which the strings that a kind has start.
-fn word_of(kind: u32) -> usize {
-    match kind {
-        kinds::NAMESPACE | kinds::START | kinds::ATTRIBUTE => strings::PREFIX,
-        kinds::INSTRUCTION => strings::NAME,
-        kinds::END => PLACE,
-        _ => strings::VALUE,
-    }
-}
-
-fn many_of(kind: u32) -> u32 {
-    match kind {
-        kinds::NAMESPACE | kinds::INSTRUCTION => 2,
-        kinds::START => 3,
-        kinds::ATTRIBUTE => 4,
-        kinds::END => 0,
-        _ => 1,
-    }
-}
-
-// 16 for what is no digit.
-fn digit(b: u8) -> u8 {
+// The value of a hex digit.
+fn digit(b: u8) -> Option<u8> {
     match b {
-        b'0'..=b'9' => b - b'0',
-        b'a'..=b'f' => b - b'a' + 10,
-        b'A'..=b'F' => b - b'A' + 10,
-        _ => 16,
+        b'0'..=b'9' => Some(b - b'0'),
+        b'a'..=b'f' => Some(b - b'a' + 10),
+        b'A'..=b'F' => Some(b - b'A' + 10),
+        _ => None,
     }
 }
 
-// Events behind the room for records are counted and not kept: the writer refuses the list before it comes to them.
-pub fn put(words: &mut [u32], at: usize, x: u32) {
-    if at < words.len() {
-        words[at] = x;
-    }
-}
-
-fn put_string(words: &mut [u32], at: usize, tag: u32, place: u32, size: u32) {
-    put(words, at, tag);
-    put(words, plus(at, 1), place);
-    put(words, plus(at, 2), size);
-}
-
-// An octet of a line's part, or the line end behind it.
+// An octet of a line's part, or the line end after it.
 fn octet_or_end(s: &[u8], i: usize) -> u8 {
-    if i < s.len() {
-        return s[i];
-    }
-    b'\n'
+    s.get(i).copied().unwrap_or(b'\n')
 }
 
-// What the last line has behind its e: "nd", a space, and the number of events.
+// What the last line has after its e: "nd", a space, and the number of events.
 fn last_octet(events: u64, i: usize) -> u8 {
     if i < 3 {
         return octet_or_end(b"nd ", i);
@@ -171,170 +164,172 @@ impl Line {
         State { line: self, phase }
     }
 
-    pub fn wrong(self, fault: Fault) -> State {
-        self.at(Phase::Wrong(fault))
+    pub fn wrong(self, fault: Fault) -> Wrong {
+        Wrong {
+            number: self.number,
+            fault,
+        }
     }
 
-    fn start(mut self, b: u8, words: &mut [u32]) -> State {
+    fn start(mut self, b: u8, room: &mut Room) -> Step {
         if b == b'e' {
-            return self.at(Phase::Last(0));
+            return Ok(self.at(Phase::Last(0)));
         }
         if b == b'H' {
             return head_lines::begin(self);
         }
-        let kind = kind_of(b);
-        if kind == kinds::BLANK {
-            return self.wrong(Fault::Letter);
-        }
-        let from = self.from;
-        put(words, from, kind);
-        self.word = plus(from, word_of(kind));
-        self.left = many_of(kind);
-        self.at(Phase::Gap)
+        let kind = lines::kind_of(b).ok_or(self.wrong(Fault::Letter))?;
+        room.put(self.from, kind.number());
+        let has = lines::strings_of(kind);
+        self.word = self.from.saturating_add(strings::PREFIX + 3 * has.start);
+        self.left = has.len();
+        Ok(self.at(Phase::Gap))
     }
 
-    // The space before a string or a number, or the line end behind the last.
-    pub fn gap(mut self, b: u8, words: &mut [u32]) -> State {
-        let left = self.left;
-        if left == 0 {
-            return self.end(b, words);
+    // The space before a string or a number, or the line end after the last.
+    pub fn gap(mut self, b: u8, room: &mut Room) -> Step {
+        if self.left == 0 {
+            return self.end(b, room);
         }
-        if b == b'\n' {
-            return self.wrong(Fault::Fewer);
+        match b {
+            b' ' => {
+                self.left -= 1;
+                Ok(self.at(if self.numbers {
+                    Phase::Number
+                } else {
+                    Phase::String
+                }))
+            }
+            b'\n' => Err(self.wrong(Fault::Fewer)),
+            _ => Err(self.wrong(Fault::Space)),
         }
-        if b != b' ' {
-            return self.wrong(Fault::Space);
-        }
-        self.left = left - 1;
-        if self.numbers {
-            return self.at(Phase::Number);
-        }
-        self.at(Phase::String)
     }
 
-    fn end(mut self, b: u8, words: &mut [u32]) -> State {
+    fn end(mut self, b: u8, room: &mut Room) -> Step {
         if b != b'\n' {
-            return self.wrong(Fault::More);
+            return Err(self.wrong(Fault::More));
         }
-        self.number = next(self.number);
+        self.number = self.number.saturating_add(1);
         if self.heading {
-            return head_lines::end(self, words).at(Phase::Start);
+            return Ok(head_lines::end(self, room).at(Phase::Start));
         }
-        self.events = next(self.events);
-        self.from = plus(self.from, RECORD);
-        self.at(Phase::Start)
+        self.events = self.events.saturating_add(1);
+        self.from = self.from.saturating_add(RECORD);
+        Ok(self.at(Phase::Start))
     }
 
-    fn string(mut self, b: u8) -> State {
-        if b == b'-' {
-            self.word = plus(self.word, 3);
-            return self.at(Phase::Gap);
+    fn string(mut self, b: u8) -> Step {
+        match b {
+            b'-' => {
+                self.word = self.word.saturating_add(3);
+                Ok(self.at(Phase::Gap))
+            }
+            b'=' => {
+                self.place = self.fill;
+                self.hash = 0;
+                Ok(self.at(Phase::Pair))
+            }
+            _ => Err(self.wrong(Fault::String)),
         }
-        if b != b'=' {
-            return self.wrong(Fault::String);
-        }
-        self.place = self.fill;
-        self.hash = 0;
-        self.at(Phase::Pair)
     }
 
-    fn pair(self, b: u8, text: &[u8], known: &mut [u64], words: &mut [u32]) -> State {
-        let d = digit(b);
-        if d < 16 {
-            return self.at(Phase::Half(d));
+    fn pair(self, b: u8, room: &mut Room) -> Step {
+        if let Some(high) = digit(b) {
+            return Ok(self.at(Phase::Half(high)));
         }
-        if b == b' ' || b == b'\n' {
-            return self.kept(text, known, words).gap(b, words);
+        match b {
+            b' ' | b'\n' => self.kept(room).gap(b, room),
+            _ => Err(self.wrong(Fault::Digit)),
         }
-        self.wrong(Fault::Digit)
     }
 
-    fn half(self, high: u8, b: u8, text: &mut [u8]) -> State {
-        let d = digit(b);
-        if 16 <= d {
-            return self.wrong(Fault::Digit);
-        }
-        self.octet(high % 16 * 16 + d, text).at(Phase::Pair)
+    fn half(self, high: u8, b: u8, room: &mut Room) -> Step {
+        let low = digit(b).ok_or(self.wrong(Fault::Digit))?;
+        Ok(self.octet(high << 4 | low, room).at(Phase::Pair))
     }
 
-    fn octet(mut self, b: u8, text: &mut [u8]) -> Line {
-        self.fill = put_octet(text, self.fill, b);
-        self.hash = (((self.hash as u64) * 16777619 + (b as u64)) % 0x1_0000_0000) as u32;
+    fn octet(mut self, b: u8, room: &mut Room) -> Line {
+        self.fill = put_octet(room.text, self.fill, b);
+        self.hash = self.hash.wrapping_mul(16777619).wrapping_add(b as u32);
         self
     }
 
-    // The tag of a built-in string in its own place, else that of none. The text area of a document's events has room for what the document spells, and not for these.
-    fn mark(self, text: &[u8]) -> u32 {
-        let place = self.place;
-        let fill = self.fill;
-        if self.word == plus(self.from, strings::PREFIX) && spells(text, place, fill, b"xml") {
-            return tags::XML_PREFIX;
+    // The tag of a built-in string in its own place. The text area of a document's events has room for what the
+    // document spells, and not for these.
+    fn built_in(self, text: &[u8]) -> Option<u32> {
+        let string = part(text, self.place, self.fill);
+        if self.word == self.from.saturating_add(strings::PREFIX) && string == b"xml".as_slice() {
+            return Some(tags::XML_PREFIX);
         }
-        if self.word == plus(self.from, strings::NAMESPACE)
-            && spells(text, place, fill, b"http://www.w3.org/XML/1998/namespace")
+        if self.word == self.from.saturating_add(strings::NAMESPACE)
+            && string == b"http://www.w3.org/XML/1998/namespace".as_slice()
         {
-            return tags::XML_NAMESPACE;
+            return Some(tags::XML_NAMESPACE);
         }
-        tags::ABSENT
+        None
     }
 
     // The string that has ended, into its three words.
-    fn kept(mut self, text: &[u8], known: &mut [u64], words: &mut [u32]) -> Line {
-        let mark = self.mark(text);
+    fn kept(mut self, room: &mut Room) -> Line {
         let word = self.word;
-        self.word = plus(word, 3);
         let place = self.place;
+        let built_in = self.built_in(room.text);
+        self.word = word.saturating_add(3);
         if self.fill <= place {
-            put(words, word, tags::EMPTY);
+            room.put(word, tags::EMPTY);
             return self;
         }
-        if mark != tags::ABSENT {
-            put(words, word, mark);
+        if let Some(tag) = built_in {
+            room.put(word, tag);
             self.fill = place;
             return self;
         }
-        let mine = (low(self.fill - place) as u64) * 0x1_0000_0000 + (low(place) as u64);
-        let one = first_same(known, text, self.hash, mine);
+        let mine = Stretch::new(place, self.fill - place);
+        let one = room.first_same(self.hash, mine);
         if one != mine {
             self.fill = place;
         }
-        put_string(
-            words,
-            word,
-            tags::STRETCH,
-            (one % 0x1_0000_0000) as u32,
-            (one / 0x1_0000_0000) as u32,
-        );
+        room.put(word, tags::STRETCH);
+        room.put(word.saturating_add(1), one.place);
+        room.put(word.saturating_add(2), one.size);
         self
     }
 
-    fn last(mut self, i: usize, b: u8) -> State {
+    fn last(mut self, i: usize, b: u8) -> Step {
         if b != last_octet(self.events, i) {
-            return self.wrong(Fault::Last);
+            return Err(self.wrong(Fault::Last));
         }
         if b == b'\n' {
-            self.number = next(self.number);
-            return self.at(Phase::Over);
+            self.number = self.number.saturating_add(1);
+            return Ok(self.at(Phase::Over));
         }
-        self.at(Phase::Last(plus(i, 1)))
+        Ok(self.at(Phase::Last(i.saturating_add(1))))
     }
 }
 
-pub fn step(st: State, b: u8, text: &mut [u8], known: &mut [u64], words: &mut [u32]) -> State {
-    let line = st.line;
-    let phase = st.phase;
-    match phase {
-        Phase::Start => line.start(b, words),
-        Phase::Gap => line.gap(b, words),
-        Phase::String => line.string(b),
-        Phase::Pair => line.pair(b, text, known, words),
-        Phase::Half(high) => line.half(high, b, text),
-        Phase::Head => head_lines::space(line, b),
-        Phase::Table => head_lines::letter(line, b),
-        Phase::Number => head_lines::number(line, b),
-        Phase::Digits(n) => head_lines::digits(line, n, b, words),
-        Phase::Last(i) => line.last(i, b),
-        Phase::Over => line.wrong(Fault::After),
-        Phase::Wrong(_) => st,
+impl State {
+    pub fn step(self, b: u8, room: &mut Room) -> Step {
+        let line = self.line;
+        match self.phase {
+            Phase::Start => line.start(b, room),
+            Phase::Gap => line.gap(b, room),
+            Phase::String => line.string(b),
+            Phase::Pair => line.pair(b, room),
+            Phase::Half(high) => line.half(high, b, room),
+            Phase::Head => head_lines::space(line, b),
+            Phase::Table => head_lines::letter(line, b),
+            Phase::Number => head_lines::number(line, b),
+            Phase::Digits(n) => head_lines::digits(line, n, b, room),
+            Phase::Last(i) => line.last(i, b),
+            Phase::Over => Err(line.wrong(Fault::After)),
+        }
+    }
+
+    // A document ends with a line end, or with the last line.
+    pub fn finished(self) -> Result<Line, Wrong> {
+        match self.phase {
+            Phase::Start | Phase::Over => Ok(self.line),
+            _ => Err(self.line.wrong(Fault::Cut)),
+        }
     }
 }

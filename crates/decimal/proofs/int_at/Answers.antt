@@ -1,13 +1,15 @@
--- `int_at` meets its contract: four octets fit 32 bits.
+-- `int_at` meets its contract: the library reads the integer that the octets are.
 -- Assumes nothing.
-use mathlib.Core.Path.{◌∙◌}
+use Rattle.std.proofs.Common.{◌∙◌, arith}
 use mir.Syntax.{w32}
+use mir.ValLaws.{to_z-of_z}
 use Rattle.format.specs.Integers.{half}
-use Rattle.decimal.proofs.Halves.{narrows, narrowed}
+use Rattle.decimal.specs.Reading.{number}
+use Rattle.decimal.proofs.Bytes.{integer_is}
 use Rattle.decimal.proofs.int_at.Goals as goal
 
-pub overflow_cast-result : goal.overflow_cast-result
-overflow_cast-result c = narrows c.integer_at.result c.integer_at.type_inv w32 (unfold half in c.integer_at.ensures.1)
-
 pub returns : goal.returns
-returns c = narrowed c.integer_at.result c.integer_at.type_inv w32 (unfold half in c.integer_at.ensures.1) ∙ c.integer_at.ensures.0
+unfolding number half
+returns c =
+    let r = c.from_be_bytes in
+    to_z-of_z w32 r.result (record { sfits = r.type_inv }) ∙ r.ensures ∙ integer_is 4 w32 (omega arith) (omega arith) c.args.s.now c.args.at _ c.requires (omega arith)

@@ -1,16 +1,11 @@
--- `put_int` meets its contract: 32 bits are as many octets.
+-- `put_int` meets its contract: the library's octets of the integer are the definition's.
 -- Assumes nothing.
-use native.Mathlib.Omega.{arith}
+use Rattle.std.proofs.Common.{arith}
 use mir.Syntax.{w32}
 use Rattle.format.specs.Integers.{half}
-use Rattle.decimal.proofs.Halves.{widens, widened, widened_held}
+use Rattle.decimal.proofs.Bytes.{octets_put}
 use Rattle.decimal.proofs.put_int.Goals as goal
 
-pub overflow_cast-z : goal.overflow_cast-z
-overflow_cast-z c = widens c.args.z w32 (omega arith) c.ranges.z
-
-pub put_integer-requires : goal.put_integer-requires
-put_integer-requires c = (c.requires, omega arith, omega arith, unfold half in widened_held c.args.z w32 (omega arith) c.ranges.z)
-
 pub returns : goal.returns
-returns c = rw (widened c.args.z w32 (omega arith) c.ranges.z) at c.put_integer.ensures
+unfolding half
+returns c = rw (octets_put 4 w32 (omega arith) (omega arith) c.args.z c.ranges.z c.to_be_bytes.ensures) at c.put_part.ensures

@@ -1,12 +1,11 @@
--- `put_long` meets its contract: 64 bits are eight octets.
+-- `put_long` meets its contract: the library's octets of the integer are the definition's.
 -- Assumes nothing.
-use native.Mathlib.Omega.{arith}
+use Rattle.std.proofs.Common.{arith}
+use mir.Syntax.{w64}
 use Rattle.format.specs.Integers.{half}
-use Rattle.decimal.proofs.Halves.{back}
+use Rattle.decimal.proofs.Bytes.{octets_put}
 use Rattle.decimal.proofs.put_long.Goals as goal
 
-pub put_integer-requires : goal.put_integer-requires
-put_integer-requires c = (c.requires, omega arith, omega arith, unfold half in rw (back _ c.ranges.z.sfits) c.ranges.z.sfits)
-
 pub returns : goal.returns
-returns c = rw (back _ c.ranges.z.sfits) at c.put_integer.ensures
+unfolding half
+returns c = rw (octets_put 8 w64 (omega arith) (omega arith) c.args.z c.ranges.z c.to_be_bytes.ensures) at c.put_part.ensures

@@ -1,16 +1,11 @@
--- `put_short` meets its contract: 16 bits are as many octets.
+-- `put_short` meets its contract: the library's octets of the integer are the definition's.
 -- Assumes nothing.
-use native.Mathlib.Omega.{arith}
+use Rattle.std.proofs.Common.{arith}
 use mir.Syntax.{w16}
 use Rattle.format.specs.Integers.{half}
-use Rattle.decimal.proofs.Halves.{widens, widened, widened_held}
+use Rattle.decimal.proofs.Bytes.{octets_put}
 use Rattle.decimal.proofs.put_short.Goals as goal
 
-pub overflow_cast-z : goal.overflow_cast-z
-overflow_cast-z c = widens c.args.z w16 (omega arith) c.ranges.z
-
-pub put_integer-requires : goal.put_integer-requires
-put_integer-requires c = (c.requires, omega arith, omega arith, unfold half in widened_held c.args.z w16 (omega arith) c.ranges.z)
-
 pub returns : goal.returns
-returns c = rw (widened c.args.z w16 (omega arith) c.ranges.z) at c.put_integer.ensures
+unfolding half
+returns c = rw (octets_put 2 w16 (omega arith) (omega arith) c.args.z c.ranges.z c.to_be_bytes.ensures) at c.put_part.ensures

@@ -1,6 +1,6 @@
 -- `all_alone` meets its contract: of each stretch no octet so far is raised to less than `low`.
 -- Assumes nothing.
-use Rattle.std.proofs.Common.{◌≡◌, ℕ, ◌+◌, ◌-◌, ◌<◌, ◌≤◌, true, List, get_or}
+use Rattle.std.proofs.Common.{◌≡◌, ℕ, ◌+◌, ◌<◌, ◌≤◌, true, List, get_or}
 use Rattle.fields.specs.Utf8.{alone}
 use Rattle.fields.proofs.all_alone.Given as goal
 
@@ -8,11 +8,5 @@ use Rattle.fields.proofs.all_alone.Given as goal
 abbrev pub Single : List ℕ → (low j : ℕ) → Type 0
 Single s low j = 0x20 ≤ low → get_or s j 0 ≤ 0x7F → alone (get_or s j 0) ≡ true
 
-abbrev pub Stretch : List ℕ → (low from to : ℕ) → Type 0
-Stretch s low from to = (j : ℕ) → from ≤ j → j < to → Single s low j
-
 abbrev pub invariant-loop-i : goal.invariant-loop-i
-invariant-loop-i l = (l.i ≤ l.half) × Stretch l.s l.low l.from (l.from + l.i) × Stretch l.s l.low l.second (l.second + l.i)
-
-abbrev pub decreases-loop-i : goal.decreases-loop-i
-decreases-loop-i l = l.half - l.i
+invariant-loop-i l = ((j : ℕ) → j < l.i → Single l.s l.low j) × ((j : ℕ) → j < l.i → Single l.s l.low (l.second + j))

@@ -1,13 +1,10 @@
 -- `all_plain` meets its contract: `not_plain` tells it of the octets that count.
 -- Assumes nothing.
-use Rattle.std.proofs.Common.{◌≡◌, ℕ, ◌+◌, ◌-◌, ◌*◌, ◌/◌, ◌^◌, sym, true≢false, arith, eqb-true}
+use Rattle.std.proofs.Common.{◌≡◌, ℕ, ◌+◌, ◌-◌, ◌*◌, ◌/◌, ◌^◌, arith, eqb-true}
 use lib.Bits.{bit_and}
 use Rattle.fields.specs.WeightContracts.{high_bits}
-use Rattle.fields.proofs.Plain.{neither, eight_plain, first_plain, At, joined}
+use Rattle.fields.proofs.Plain.{neither, eight_plain, first_plain, At, joined, part_plain}
 use Rattle.fields.proofs.all_plain.Goals as goal
-
-pub returns-then-s-from-lt8 : goal.returns-then-s-from-lt8
-returns-then-s-from-lt8 c = λ e. absurd (true≢false (sym e))
 
 pub returns-then-n-lt8 : goal.returns-then-n-lt8
 unfolding high_bits
@@ -33,4 +30,4 @@ returns-then-n-le16 c =
 
 pub returns : goal.returns
 unfolding high_bits
-returns c = λ e. c.not_plain_by_eights.ensures (eqb-true _ _ e)
+returns c = λ e. part_plain c.args.s.now c.args.from c.args.to (omega arith) (c.not_plain_by_eights.ensures (eqb-true _ _ e))

@@ -1,11 +1,11 @@
--- `by_characters` meets its contract: character by character, the octets from here on are text where all are.
+-- `by_characters` meets its contract: character by character, what is left is text where all is.
 -- Assumes nothing.
-use Rattle.std.proofs.Common.{◌≡◌, ◌-◌, ◌≤◌, take, drop}
+use Rattle.std.proofs.Common.{◌≡◌, length}
 use Rattle.fields.specs.Utf8.{is_text}
 use Rattle.fields.proofs.by_characters.Given as goal
 
-abbrev pub invariant-loop-i : goal.invariant-loop-i
-invariant-loop-i l = (l.i ≤ l.to) × (is_text (take (l.to - l.from) (drop l.from l.s)) ≡ is_text (take (l.to - l.i) (drop l.i l.s)))
+abbrev pub invariant-loop-rest : goal.invariant-loop-rest
+invariant-loop-rest l = is_text l.s ≡ is_text l.rest
 
-abbrev pub decreases-loop-i : goal.decreases-loop-i
-decreases-loop-i l = l.to - l.i
+abbrev pub decreases-loop-rest : goal.decreases-loop-rest
+decreases-loop-rest l = length l.rest

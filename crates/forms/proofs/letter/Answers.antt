@@ -1,13 +1,22 @@
 -- `letter` meets its contract: the byte strings are the alphabets.
 -- Assumes nothing.
+use mathlib.Core.Path.{◌≡◌, refl}
+use Prim.Native.Nat.{ℕ}
+use lib.ListN.{get_or}
+use Rattle.format.specs.declared.StringForm.{StringForm}
+use Rattle.format.specs.declared.StringForm.TheVariants.{Utf8, Utf16, Numeric, Dates, Short, Int, Long}
 use Rattle.format.specs.Forms.{numeric, dates}
+use Rattle.forms.specs.Packing.{alphabet}
 use Rattle.forms.proofs.letter.Goals as goal
 
-pub returns-in-Utf8 : goal.returns-in-Utf8
-returns-in-Utf8 c = rw c.in-Utf8.is
-
-pub returns-in-Utf16 : goal.returns-in-Utf16
-returns-in-Utf16 c = rw c.in-Utf16.is
+none : (f : StringForm) (k : ℕ) → (f ≡ Numeric → ⊥) → (f ≡ Dates → ⊥) → 0 ≡ get_or (alphabet f) k 0
+none Utf8 k n d = refl
+none Utf16 k n d = refl
+none Numeric k n d = absurd (n refl)
+none Dates k n d = absurd (d refl)
+none Short k n d = refl
+none Int k n d = refl
+none Long k n d = refl
 
 pub returns-in-Numeric : goal.returns-in-Numeric
 unfolding numeric
@@ -17,11 +26,5 @@ pub returns-in-Dates : goal.returns-in-Dates
 unfolding dates
 returns-in-Dates c = rw c.in-Dates.is
 
-pub returns-in-Short : goal.returns-in-Short
-returns-in-Short c = rw c.in-Short.is
-
-pub returns-in-Int : goal.returns-in-Int
-returns-in-Int c = rw c.in-Int.is
-
-pub returns-in-Long : goal.returns-in-Long
-returns-in-Long c = rw c.in-Long.is
+pub returns-in_default : goal.returns-in_default
+returns-in_default c = none c.args.form c.args.k c.in_default.not-Numeric c.in_default.not-Dates

@@ -3,4 +3,4 @@
 use Rattle.index.proofs.bucket_of.Goals as goal
 
 pub returns : goal.returns
-returns c = (c.look-x.ensures.0, c.look-x.ensures.1)
+returns c = (c.look.ensures.0, c.look.ensures.1)

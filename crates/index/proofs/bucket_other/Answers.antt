@@ -4,7 +4,7 @@ use borrow.Author.Rules.{rules}
 use native.Mathlib.Omega.{arith}
 use mathlib.Core.Path.{◌∙◌}
 use Rattle.tables.proofs.SaidLaws.{sound_part, says_some}
-use Rattle.index.proofs.Hash.{put_length, bucket_put, bucket_put_first}
+use Rattle.index.proofs.Hash.{put_length, bucket_put_counted}
 use Rattle.index.proofs.bucket_other.Goals as goal
 
 pub put_said-n-requires : goal.put_said-n-requires
@@ -20,14 +20,7 @@ bucket_of-requires c =
     let put = put_length a.s.now a.form a.place a.len _ _ _ c.put_said-n.ensures.0 in
     search rules
 
-pub returns-then-n-lt-COUNTED : goal.returns-then-n-lt-COUNTED
-returns-then-n-lt-COUNTED c =
-    let a = c.args in
-    let put = c.put_said-n.ensures.0 in
-    (c.bucket_of.ensures.0 ∙ bucket_put a.s.now a.form a.place a.len _ _ _ put (omega arith), c.bucket_of.ensures.1)
-
 pub returns : goal.returns
 returns c =
     let a = c.args in
-    let put = c.put_said-n.ensures.0 in
-    (c.bucket_of-2.ensures.0 ∙ bucket_put_first a.s.now a.form a.place a.len _ _ _ put (omega arith) (omega arith), c.bucket_of-2.ensures.1)
+    (c.bucket_of.ensures.0 ∙ bucket_put_counted a.s.now a.form a.place a.len _ _ _ c.put_said-n.ensures.0 (omega arith) _ c.min.ensures, c.bucket_of.ensures.1)

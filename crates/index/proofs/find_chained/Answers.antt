@@ -12,8 +12,8 @@ pub loop-k-init : goal.loop-k-init
 loop-k-init c =
     let a = c.args in
     let p = c.requires in
-    let w : StringWalk a.s.now a.t.now a.table a.n (octets_of a.s.now (stretch Utf8 a.place a.len)) c.number-k.result =
-    (rw (c.number-k.ensures, p.8) (string_start _ _ _ _ _ _ p.7 p.10)) in
+    let w : StringWalk a.s.now a.t.now a.table a.n (octets_of a.s.now (stretch Utf8 a.place a.len)) c.from-k.result =
+    (rw (c.from-k.ensures, p.8) (string_start _ _ _ _ _ _ p.7 p.10)) in
     (refl, w, string_within _ _ _ _ _ _ w)
 
 pub is_spelled-requires : goal.is_spelled-requires
@@ -30,13 +30,13 @@ pub loop-k-smaller : goal.loop-k-smaller
 loop-k-smaller c =
     let pre = c.requires in
     let f = string_falls _ _ _ _ _ _ pre.7 pre.10 _ c.loop-k.invariant.1 (omega arith) in
-    let e = c.number-k-in-loop-k.ensures in
+    let e = c.from-k-in-loop-k.ensures in
     omega arith
 
 pub loop-k-preserved : goal.loop-k-preserved
 loop-k-preserved c =
     let pre = c.requires in
-    let w = rw (← c.number-k-in-loop-k.ensures) at (string_next _ _ _ _ _ _ pre.7 pre.10 _ c.loop-k.invariant.1 (omega arith)
+    let w = rw (← c.from-k-in-loop-k.ensures) at (string_next _ _ _ _ _ _ pre.7 pre.10 _ c.loop-k.invariant.1 (omega arith)
     (sym (row_identifying _ _ _ _ _ _ pre.2 pre.4 pre.5 pre.10) ∙ sym c.is_spelled.ensures ∙ c.if-is_spelled.false)) in
     (c.loop-k.invariant.0, w, string_within _ _ _ _ _ _ w)
 

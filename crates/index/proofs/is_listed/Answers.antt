@@ -12,8 +12,8 @@ pub loop-row-init : goal.loop-row-init
 loop-row-init c =
     let a = c.args in
     let p = c.requires in
-    let w : StringWalk a.s.now a.t.now a.table a.n (octets_of a.s.now (stretch Utf8 a.place a.len)) c.number-row.result =
-    (rw (c.number-row.ensures, p.8) (string_start _ _ _ _ _ _ p.7 p.10)) in
+    let w : StringWalk a.s.now a.t.now a.table a.n (octets_of a.s.now (stretch Utf8 a.place a.len)) c.from-row.result =
+    (rw (c.from-row.ensures, p.8) (string_start _ _ _ _ _ _ p.7 p.10)) in
     (refl, w, string_within _ _ _ _ _ _ w)
 
 pub is_spelled-requires : goal.is_spelled-requires
@@ -31,13 +31,13 @@ pub loop-row-smaller : goal.loop-row-smaller
 loop-row-smaller c =
     let pre = c.requires in
     let f = string_falls _ _ _ _ _ _ pre.7 pre.10 _ c.loop-row.invariant.1 (omega arith) in
-    let e = c.number-row-in-loop-row.ensures in
+    let e = c.from-row-in-loop-row.ensures in
     omega arith
 
 pub loop-row-preserved : goal.loop-row-preserved
 loop-row-preserved c =
     let pre = c.requires in
-    let w = rw (← c.number-row-in-loop-row.ensures) at (string_next _ _ _ _ _ _ pre.7 pre.10 _ c.loop-row.invariant.1 (omega arith)
+    let w = rw (← c.from-row-in-loop-row.ensures) at (string_next _ _ _ _ _ _ pre.7 pre.10 _ c.loop-row.invariant.1 (omega arith)
     (sym (row_identifying _ _ _ _ _ _ pre.2 pre.4 pre.5 pre.10) ∙ sym c.is_spelled.ensures ∙ c.if-is_spelled.false)) in
     (c.loop-row.invariant.0, w, string_within _ _ _ _ _ _ w)
 

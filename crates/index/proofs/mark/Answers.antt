@@ -8,11 +8,11 @@ use Rattle.index.proofs.Plain.{plain_string}
 use Rattle.index.proofs.mark.Goals as goal
 
 pub returns-then-x : goal.returns-then-x
-returns-then-x c = (c.look-x.ensures.0, c.look-x.ensures.1, plain_string _ _ _ (omega arith) (c.look-x.ensures.2 c.if-x.true))
+returns-then-x c = (c.look-x.ensures.0, c.look-x.ensures.1, c.if-x.true ∙ plain_string _ _ _ (omega arith) (c.look-x.ensures.2 c.if-x.true))
 
-pub returns : goal.returns
+pub returns-else-x : goal.returns-else-x
 unfolding octets_of
-returns c =
+returns-else-x c =
     let a = c.args in
     let z : a.place + a.len - a.place ≡ a.len = omega arith in
     (c.look-x.ensures.0, c.look-x.ensures.1, c.is_text.ensures ∙ rw z)

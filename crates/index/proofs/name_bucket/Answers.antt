@@ -6,4 +6,4 @@ use Rattle.index.proofs.name_bucket.Goals as goal
 
 pub returns : goal.returns
 unfolding name_bucket
-returns c = (c.spread.ensures.0 ∙ rw (c.word.ensures.0, c.word-2.ensures.0, c.word-3.ensures.0), c.spread.ensures.1)
+returns c = (c.spread.ensures.0 ∙ rw (c.from.ensures, c.from-2.ensures, c.from-3.ensures), c.spread.ensures.1)

@@ -2,7 +2,7 @@
 -- Assumes nothing.
 use mathlib.Core.List.{List, map}
 use mathlib.Core.Path.{◌≡◌}
-use Prim.Native.Nat.{ℕ, ◌*◌, ◌-◌, ◌≤◌}
+use Prim.Native.Nat.{ℕ, ◌*◌}
 use Rattle.format.specs.Tables.{same}
 use Rattle.format.specs.declared.StringForm.TheVariants.{Utf8}
 use Rattle.tables.specs.Search.{number_in}
@@ -14,9 +14,5 @@ use Rattle.tables.proofs.find_any.Given as goal
 abbrev pub invariant-loop-i : goal.invariant-loop-i
 invariant-loop-i l =
     let x = octets_of l.s (stretch Utf8 l.place l.len) in
-    (l.i ≤ l.n)
-    × (left (λ (y : List ℕ). same y x) (λ (at : ℕ). octets_of l.s (string_at (table_of l.table) l.t at)) (768 * l.table) l.n l.i
-    ≡ number_in (map (octets_of l.s) (entries (string_at (table_of l.table) l.t) (768 * l.table) l.n)) x)
-
-abbrev pub decreases-loop-i : goal.decreases-loop-i
-decreases-loop-i l = l.n - l.i
+    left (λ (y : List ℕ). same y x) (λ (at : ℕ). octets_of l.s (string_at (table_of l.table) l.t at)) (768 * l.table) l.n l.i
+    ≡ number_in (map (octets_of l.s) (entries (string_at (table_of l.table) l.t) (768 * l.table) l.n)) x

@@ -14,7 +14,7 @@ returns-then-x-ne0 c =
 pub returns-then-counts-table-ge-ENTRIES : goal.returns-then-counts-table-ge-ENTRIES
 returns-then-counts-table-ge-ENTRIES c =
     let looked = c.requires.3 in
-    id_full _ _ _ _ c.requires.0 c.args.x c.requires.2 looked (omega arith) (omega arith)
+    (refl, id_full _ _ _ _ c.requires.0 c.args.x c.requires.2 looked (omega arith) (omega arith))
 
 pub spelled-behind-requires : goal.spelled-behind-requires
 spelled-behind-requires c =

@@ -1,13 +1,15 @@
--- `write_rows::written`: what is left to do leads to what the definition leaves; each turn takes one record.
-use Rattle.std.proofs.Common.{◌-◌, length}
+-- `written`: the run that is underway leads to what the definition leaves.
+-- Assumes nothing.
+use Rattle.std.proofs.Common.{◌≡◌, length}
 use Rattle.format.specs.Tables.{link}
+use Rattle.tables.specs.Counts.{table_words}
 use Rattle.writer.specs.Writing.{write_of}
-use Rattle.writer.specs.RunContracts.{Going}
+use Rattle.writer.specs.RunContracts.{Underway}
 use Rattle.write_rows.proofs.written.Given as goal
 
-abbrev pub invariant-loop-a : goal.invariant-loop-a
-invariant-loop-a l =
-    Going (write_of link l.given l.events l.text (length l.fn.out) (length l.fn.tables)) l.events l.text (length l.fn.out) (length l.fn.tables) l.i l.p l.out l.tables l.index
-
-abbrev pub decreases-loop-a : goal.decreases-loop-a
-decreases-loop-a l = length l.events - l.i
+abbrev pub invariant-loop-i : goal.invariant-loop-i
+invariant-loop-i l =
+    record {
+      table : length l.fn.tables ≡ table_words;
+      under : Underway (write_of link l.given l.events l.text (length l.fn.out) (length l.fn.tables)) l.text (length l.fn.out) l.events l.i l.st l.counts l.out l.tables l.index;
+    }

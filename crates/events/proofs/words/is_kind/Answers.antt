@@ -1,31 +1,32 @@
--- `words::is_kind` meets its contract: a law for each way out.
+-- `words::is_kind` meets its contract: a record of words is of a kind where it has the kind's number and all four strings.
 -- Assumes nothing.
+use mathlib.Core.Path.{sym, ◌∙◌}
 use native.Mathlib.Omega.{arith}
-use Rattle.events.proofs.KindLaws.{none_begins, same_begins, other_begins}
+use borrow.Author.Tests.{ltb-true}
+use Rattle.events.specs.Words.{kind_number}
+use Rattle.events.proofs.KindLaws.{same_begins, other_begins, number_le}
 use Rattle.events.proofs.words.is_kind.Goals as goal
 
-pub returns-then-w-n : goal.returns-then-w-n
-returns-then-w-n c = none_begins c.args.w.now c.args.n c.args.number c.requires.0 (omega arith)
-
 pub returns-then-w-at : goal.returns-then-w-at
-returns-then-w-at c = other_begins c.args.w.now c.args.n c.args.number c.requires.0 (omega arith) (omega arith)
+returns-then-w-at c =
+    let inside = ltb-true _ _ (sym c.has_record.ensures ∙ c.if-not-has_record.false) in
+    other_begins c.args.w.now c.args.n (kind_number c.args.kind) c.requires inside (omega arith)
 
-pub returns-then-is_told-3 : goal.returns-then-is_told-3
-returns-then-is_told-3 c =
-    let told = same_begins c.args.w.now c.args.n c.args.number c.requires.0 (omega arith) c.requires.1 (omega arith) in
-    rw (← told, ← c.is_told.ensures, c.if-is_told.true, ← c.is_told-then-is_told.ensures, c.if-is_told-2.true, ← c.is_told-then-is_told-2.ensures, c.if-is_told-3.true, ← c.is_told-then-is_told-3.ensures)
-
-pub returns-else-is_told-3 : goal.returns-else-is_told-3
-returns-else-is_told-3 c =
-    let told = same_begins c.args.w.now c.args.n c.args.number c.requires.0 (omega arith) c.requires.1 (omega arith) in
-    rw (← told, ← c.is_told.ensures, c.if-is_told.true, ← c.is_told-then-is_told.ensures, c.if-is_told-2.true, ← c.is_told-then-is_told-2.ensures, c.if-is_told-3.false)
-
-pub returns-else-is_told-2 : goal.returns-else-is_told-2
-returns-else-is_told-2 c =
-    let told = same_begins c.args.w.now c.args.n c.args.number c.requires.0 (omega arith) c.requires.1 (omega arith) in
-    rw (← told, ← c.is_told.ensures, c.if-is_told.true, ← c.is_told-then-is_told.ensures, c.if-is_told-2.false)
-
-pub returns-else-is_told : goal.returns-else-is_told
-returns-else-is_told c =
-    let told = same_begins c.args.w.now c.args.n c.args.number c.requires.0 (omega arith) c.requires.1 (omega arith) in
-    rw (← told, ← c.is_told.ensures, c.if-is_told.false)
+pub returns-then-is_some-3 : goal.returns-then-is_some-3
+returns-then-is_some-3 c =
+    let inside = ltb-true _ _ (sym c.has_record.ensures ∙ c.if-not-has_record.false) in
+    let told = same_begins c.args.w.now c.args.n (kind_number c.args.kind) c.requires inside (number_le c.args.kind) (omega arith) in
+    rw (
+      ← told,
+      ← c.told_at.ensures,
+      ← c.is_some.ensures,
+      c.if-is_some.true,
+      ← c.told_at-then-is_some.ensures,
+      ← c.is_some-then-is_some.ensures,
+      c.if-is_some-2.true,
+      ← c.told_at-then-is_some-2.ensures,
+      ← c.is_some-then-is_some-2.ensures,
+      c.if-is_some-3.true,
+      ← c.told_at-then-is_some-3.ensures,
+      ← c.is_some-then-is_some-3.ensures,
+    )

@@ -1,39 +1,24 @@
 -- `are_places` meets its contract: what is left is places where the whole is.
 -- Assumes nothing.
-use native.Mathlib.Omega.{arith}
 use mathlib.Core.Path.{refl}
-use Rattle.forms.proofs.Sizes.{places_high, places_last, places_fill, places_next, places_end}
+use Rattle.forms.proofs.Streams.{drop_next, drop_end}
+use Rattle.forms.proofs.Sizes.{places_end, places_filled, places_high, places_next}
 use Rattle.forms.proofs.deciding.are_places.Goals as goal
+use Rattle.forms.proofs.deciding.are_places.Goals.{then-fills-via-then-fills, then-fills-via-else-fills+then-o-ge240}
 
-pub loop-i-init : goal.loop-i-init
-loop-i-init c = (c.requires.0, refl)
+pub loop-o-init : goal.loop-o-init
+loop-o-init c = refl
 
-pub returns-then-o-ge240 : goal.returns-then-o-ge240
-returns-then-o-ge240 c =
-    let a = c.args in
-    let p = c.requires in
-    places_high a.s.now c.loop-i.i a.to p.1 _ c.loop-i.invariant.1 (omega arith) (omega arith)
+pub returns-then-fills : goal.returns-then-fills
+returns-then-fills c =
+    let e = drop_next c.args.s.now c.loop-o.o-index c.loop-o-test.true in
+    elim c.then-fills.branch [
+      | then-fills-via-then-fills w ↦ places_filled c.args.s.now _ _ c.loop-o.invariant _ _ e w.if-fills.true
+      | then-fills-via-else-fills+then-o-ge240 w ↦ places_high c.args.s.now _ _ c.loop-o.invariant _ _ e w.if-fills.false w.if-o-ge240.true
+    ]
 
-pub returns-then-to-i : goal.returns-then-to-i
-returns-then-to-i c =
-    let a = c.args in
-    let p = c.requires in
-    places_last a.s.now c.loop-i.i a.to p.1 _ c.loop-i.invariant.1 (omega arith) (omega arith) (omega arith)
-
-pub returns-then-o-eq15 : goal.returns-then-o-eq15
-returns-then-o-eq15 c =
-    let a = c.args in
-    let p = c.requires in
-    places_fill a.s.now c.loop-i.i a.to p.1 _ c.loop-i.invariant.1 (omega arith) (omega arith) (omega arith) (omega arith)
-
-pub loop-i-preserved : goal.loop-i-preserved
-loop-i-preserved c =
-    let a = c.args in
-    let p = c.requires in
-    (omega arith, places_next a.s.now c.loop-i.i a.to p.1 _ c.loop-i.invariant.1 (omega arith) (omega arith) (omega arith) (omega arith))
+pub loop-o-preserved : goal.loop-o-preserved
+loop-o-preserved c = places_next c.args.s.now _ _ c.loop-o.invariant _ _ (drop_next c.args.s.now c.loop-o.o-index c.loop-o-test.true) c.if-fills.false c.if-o-ge240.false
 
 pub returns : goal.returns
-returns c =
-    let a = c.args in
-    let p = c.requires in
-    places_end a.s.now c.loop-i.i a.to p.1 _ c.loop-i.invariant.1 (omega arith)
+returns c = places_end c.args.s.now _ _ c.loop-o.invariant (drop_end c.args.s.now c.loop-o.o-index c.loop-o-test.false)

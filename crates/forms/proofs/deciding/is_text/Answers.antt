@@ -1,5 +1,6 @@
 -- `is_text` meets its contract: each form has its test.
 -- Assumes nothing.
+use mathlib.Core.Logic.{inl, inr}
 use Rattle.format.specs.declared.StringForm.TheVariants.{Utf8, Utf16, Numeric, Dates, Short, Int, Long}
 use Rattle.forms.proofs.Forms.{tested}
 use Rattle.forms.proofs.Sizes.{integers_told}
@@ -12,10 +13,11 @@ pub returns-in-Utf16 : goal.returns-in-Utf16
 returns-in-Utf16 c = tested _ Utf16 _ _ c.in-Utf16.is c.is_text16.ensures
 
 pub returns-in-Numeric : goal.returns-in-Numeric
-returns-in-Numeric c = tested _ Numeric _ _ c.in-Numeric.is c.are_places.ensures
-
-pub returns-in-Dates : goal.returns-in-Dates
-returns-in-Dates c = tested _ Dates _ _ c.in-Dates.is c.are_places-in-Dates.ensures
+returns-in-Numeric c =
+    elim c.in-Numeric.is [
+      | inl e ↦ tested _ Numeric _ _ e c.are_places.ensures
+      | inr e ↦ tested _ Dates _ _ e c.are_places.ensures
+    ]
 
 pub returns-in-Short : goal.returns-in-Short
 returns-in-Short c = tested _ Short _ _ c.in-Short.is (integers_told c.args.s.now c.args.at c.args.to 2 _ c.requires.1 (λ i. (c.type_inv.s i).fits) c.is_whole.ensures)

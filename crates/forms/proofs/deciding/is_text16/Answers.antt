@@ -1,40 +1,31 @@
 -- `is_text16` meets its contract: what is left is characters where the whole is.
 -- Assumes nothing.
-use borrow.Author.Rules.{rules}
 use native.Mathlib.Omega.{arith}
-use mathlib.Core.Path.{refl}
+use Prim.Native.Nat.{◌-◌}
+use mathlib.Core.Path.{refl, sym, ◌∙◌}
+use lib.ListN.{length, drop, length-drop}
+use Rattle.std.proofs.lemmas.List.{take_all}
 use Rattle.forms.proofs.Sizes.{text_not, text_next, text_end}
 use Rattle.forms.proofs.deciding.is_text16.Goals as goal
 
-pub loop-i-init : goal.loop-i-init
-loop-i-init c = (c.requires.0, refl)
+pub loop-rest-init : goal.loop-rest-init
+loop-rest-init c = refl
 
 pub returns-then-n-eq0 : goal.returns-then-n-eq0
-returns-then-n-eq0 c =
-    let a = c.args in
-    let p = c.requires in
-    text_not a.s.now c.loop-i.i a.to p.1 _ c.loop-i.invariant.1 _ c.size16-n.ensures (omega arith) (omega arith)
+returns-then-n-eq0 c = sym (text_not c.loop-rest.rest.now c.loop-rest-test.ensures (sym c.if-n-eq0.true ∙ c.size16-n.ensures)) ∙ c.loop-rest.invariant
 
-pub overflow_add-i : goal.overflow_add-i
-overflow_add-i c =
-    let a = c.args in
-    let p = c.requires in
-    let w = text_next a.s.now c.loop-i.i a.to p.1 _ c.loop-i.invariant.1 _ c.size16-n.ensures (omega arith) (λ z. omega arith) in search rules
+pub slice_bounds-rest-count : goal.slice_bounds-rest-count
+slice_bounds-rest-count c = (text_next c.loop-rest.rest.now _ c.size16-n.ensures (λ z. omega arith)).0
 
-pub loop-i-smaller : goal.loop-i-smaller
-loop-i-smaller c =
-    let a = c.args in
-    let p = c.requires in
-    let w = text_next a.s.now c.loop-i.i a.to p.1 _ c.loop-i.invariant.1 _ c.size16-n.ensures (omega arith) (λ z. omega arith) in omega arith
+pub slice_bounds-rest-start : goal.slice_bounds-rest-start
+slice_bounds-rest-start c = (text_next c.loop-rest.rest.now _ c.size16-n.ensures (λ z. omega arith)).0
 
-pub loop-i-preserved : goal.loop-i-preserved
-loop-i-preserved c =
-    let a = c.args in
-    let p = c.requires in
-    text_next a.s.now c.loop-i.i a.to p.1 _ c.loop-i.invariant.1 _ c.size16-n.ensures (omega arith) (λ z. omega arith)
+pub loop-rest-preserved : goal.loop-rest-preserved
+loop-rest-preserved c =
+    let x = c.loop-rest.rest.now in
+    let n = c.size16-n.result in
+    let p = text_next x n c.size16-n.ensures (λ z. omega arith) in
+    rw (take_all (length x - n) (drop n x) (omega (arith, length-drop n x))) (sym p.1 ∙ c.loop-rest.invariant)
 
 pub returns : goal.returns
-returns c =
-    let a = c.args in
-    let p = c.requires in
-    text_end a.s.now c.loop-i.i a.to p.1 _ c.loop-i.invariant.1 (omega arith)
+returns c = sym (text_end c.loop-rest.rest.now c.loop-rest-test.ensures) ∙ c.loop-rest.invariant

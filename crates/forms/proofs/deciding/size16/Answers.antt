@@ -1,65 +1,55 @@
--- `size16` meets its contract: in each range of first octets, the rows that are left of the table.
+-- `size16` meets its contract: what its tests on the first unit, and on the second, tell.
 -- Assumes nothing.
 use native.Mathlib.Omega.{arith}
-use mathlib.Core.Path.{refl, sym, ◌∙◌}
-use mathlib.Core.List.{[], ◌∷◌}
-use Rattle.format.specs.Characters.{◌‥◌}
-use Rattle.forms.specs.Reading.{rows16}
-use Rattle.forms.proofs.Sizes.{some, none, hit, miss, last}
+use Rattle.forms.proofs.Units.{too_short, two, no_character, lone, four, unpaired}
 use Rattle.forms.proofs.deciding.size16.Goals as goal
 
-pub returns-then-fits1 : goal.returns-then-fits1
-unfolding rows16
-returns-then-fits1 c =
-    let a = c.args in
-    let p = c.requires in
-    some a.s.now a.at a.to p.0 p.1 rows16 0 3 0x00 0x00 _ refl (omega arith) (hit a.s.now a.at a.to p.0 p.1 0x00 0x00 (0x09 ‥ 0x0A ∷ []) _ (omega arith) (sym c.if-fits1.true ∙ c.fits1.ensures))
+pub returns-then-s-lt2 : goal.returns-then-s-lt2
+returns-then-s-lt2 c = too_short c.args.s.now (λ i. (c.type_inv.s i).fits) c.if-s-lt2.true
 
-pub returns-then-fits1-2 : goal.returns-then-fits1-2
-unfolding rows16
-returns-then-fits1-2 c =
-    let a = c.args in
-    let p = c.requires in
-    some a.s.now a.at a.to p.0 p.1 rows16 0 3 0x00 0x00 _ refl (omega arith) (miss a.s.now a.at a.to p.0 p.1 0x00 0x00 (0x09 ‥ 0x0A ∷ []) _ _ (sym c.if-fits1.false ∙ c.fits1.ensures) (hit a.s.now a.at a.to p.0 p.1 0x00 0x00 (0x0D ‥ 0x0D ∷ []) _ (omega arith) (sym c.if-fits1-2.true ∙ c.fits1-then-b-eq0.ensures)))
+pub returns-in-56320-to-57343 : goal.returns-in-56320-to-57343
+returns-in-56320-to-57343 c =
+    four c.unit.result c.unit-in-55296-to-56319.result (omega arith) (omega arith) c.args.s.now (λ i. (c.type_inv.s i).fits) c.if-s-ge4.true c.unit.ensures.0 c.unit-in-55296-to-56319.ensures.0 (omega arith) (omega arith)
 
-pub returns-then-b-eq0 : goal.returns-then-b-eq0
-unfolding rows16
-returns-then-b-eq0 c =
-    let a = c.args in
-    let p = c.requires in
-    some a.s.now a.at a.to p.0 p.1 rows16 0 3 0x00 0x00 _ refl (omega arith) (miss a.s.now a.at a.to p.0 p.1 0x00 0x00 (0x09 ‥ 0x0A ∷ []) _ _ (sym c.if-fits1.false ∙ c.fits1.ensures) (miss a.s.now a.at a.to p.0 p.1 0x00 0x00 (0x0D ‥ 0x0D ∷ []) _ _ (sym c.if-fits1-2.false ∙ c.fits1-then-b-eq0.ensures) (last a.s.now a.at a.to p.0 p.1 0x00 0x00 (0x20 ‥ 0xFF ∷ []) _ _ (omega arith) c.fits1-then-b-eq0-2.ensures c.sized.ensures)))
+pub returns-in_default-unit : goal.returns-in_default-unit
+returns-in_default-unit c =
+    unpaired c.unit.result c.unit-in-55296-to-56319.result (omega arith) (omega arith) c.args.s.now (λ i. (c.type_inv.s i).fits) c.if-s-ge4.true c.unit.ensures.0 c.unit-in-55296-to-56319.ensures.0 (λ p q. omega arith)
 
-pub returns-then-b-lt216 : goal.returns-then-b-lt216
-unfolding rows16
-returns-then-b-lt216 c =
-    let a = c.args in
-    let p = c.requires in
-    some a.s.now a.at a.to p.0 p.1 rows16 3 1 0x01 0xD7 _ refl (omega arith) (last a.s.now a.at a.to p.0 p.1 0x01 0xD7 (0x00 ‥ 0xFF ∷ []) _ _ (omega arith) c.fits1-then-b-lt216.ensures c.sized-then-b-lt216.ensures)
+pub returns-in_default-unit-2 : goal.returns-in_default-unit-2
+returns-in_default-unit-2 c =
+    unpaired c.unit.result c.unit-in-55296-to-56319.result (omega arith) (omega arith) c.args.s.now (λ i. (c.type_inv.s i).fits) c.if-s-ge4.true c.unit.ensures.0 c.unit-in-55296-to-56319.ensures.0 (λ p q. omega arith)
 
-pub returns-then-b-lt220 : goal.returns-then-b-lt220
-unfolding rows16
-returns-then-b-lt220 c =
-    let a = c.args in
-    let p = c.requires in
-    some a.s.now a.at a.to p.0 p.1 rows16 6 1 0xD8 0xDB _ refl (omega arith) (last a.s.now a.at a.to p.0 p.1 0xD8 0xDB (0x00 ‥ 0xFF ∷ 0xDC ‥ 0xDF ∷ 0x00 ‥ 0xFF ∷ []) _ _ (omega arith) c.fits3.ensures c.sized-then-b-lt220.ensures)
+pub returns-in_default : goal.returns-in_default
+returns-in_default c =
+    no_character c.args.s.now (λ i. (c.type_inv.s i).fits) c.if-s-lt2.false c.unit.result c.unit.ensures.0 (λ z. omega arith) (λ z. omega arith) (λ z. omega arith) (λ y z. omega arith) (λ y z. omega arith)
 
-pub returns-then-b-lt224 : goal.returns-then-b-lt224
-unfolding rows16
-returns-then-b-lt224 c =
-    let a = c.args in
-    let p = c.requires in
-    none a.s.now a.at a.to p.0 p.1 rows16 0xDC 0xDF refl (omega arith)
+pub returns-in_default-2 : goal.returns-in_default-2
+returns-in_default-2 c =
+    no_character c.args.s.now (λ i. (c.type_inv.s i).fits) c.if-s-lt2.false c.unit.result c.unit.ensures.0 (λ z. omega arith) (λ z. omega arith) (λ z. omega arith) (λ y z. omega arith) (λ y z. omega arith)
 
-pub returns-then-b-lt255 : goal.returns-then-b-lt255
-unfolding rows16
-returns-then-b-lt255 c =
-    let a = c.args in
-    let p = c.requires in
-    some a.s.now a.at a.to p.0 p.1 rows16 4 1 0xE0 0xFE _ refl (omega arith) (last a.s.now a.at a.to p.0 p.1 0xE0 0xFE (0x00 ‥ 0xFF ∷ []) _ _ (omega arith) c.fits1-then-b-lt255.ensures c.sized-then-b-lt255.ensures)
+pub returns-in_default-4 : goal.returns-in_default-4
+returns-in_default-4 c =
+    no_character c.args.s.now (λ i. (c.type_inv.s i).fits) c.if-s-lt2.false c.unit.result c.unit.ensures.0 (λ z. omega arith) (λ z. omega arith) (λ z. omega arith) (λ y z. omega arith) (λ y z. omega arith)
 
-pub returns : goal.returns
-unfolding rows16
-returns c =
-    let a = c.args in
-    let p = c.requires in
-    some a.s.now a.at a.to p.0 p.1 rows16 5 1 0xFF 0xFF _ refl (omega (arith, c.type_inv.s a.at)) (last a.s.now a.at a.to p.0 p.1 0xFF 0xFF (0x00 ‥ 0xFD ∷ []) _ _ (omega (arith, c.type_inv.s a.at)) c.fits1-2.ensures c.sized-2.ensures)
+pub returns-in_default-5 : goal.returns-in_default-5
+returns-in_default-5 c =
+    no_character c.args.s.now (λ i. (c.type_inv.s i).fits) c.if-s-lt2.false c.unit.result c.unit.ensures.0 (λ z. omega arith) (λ z. omega arith) (λ z. omega arith) (λ y z. omega arith) (λ y z. omega arith)
+
+pub returns-in_default-3 : goal.returns-in_default-3
+returns-in_default-3 c = lone c.args.s.now (λ i. (c.type_inv.s i).fits) c.if-s-lt2.false c.if-s-ge4.false c.unit.result c.unit.ensures.0 (omega arith) (omega arith)
+
+pub returns-in-9 : goal.returns-in-9
+returns-in-9 c =
+    two c.args.s.now (λ i. (c.type_inv.s i).fits) c.if-s-lt2.false c.unit.result c.unit.ensures.0 (λ z. omega arith) (λ z. omega arith) (λ z. omega arith) (λ y z. omega arith) (λ y z. omega arith) (omega arith)
+
+pub returns-in-9-2 : goal.returns-in-9-2
+returns-in-9-2 c =
+    two c.args.s.now (λ i. (c.type_inv.s i).fits) c.if-s-lt2.false c.unit.result c.unit.ensures.0 (λ z. omega arith) (λ z. omega arith) (λ z. omega arith) (λ y z. omega arith) (λ y z. omega arith) (omega arith)
+
+pub returns-in-9-3 : goal.returns-in-9-3
+returns-in-9-3 c =
+    two c.args.s.now (λ i. (c.type_inv.s i).fits) c.if-s-lt2.false c.unit.result c.unit.ensures.0 (λ z. omega arith) (λ z. omega arith) (λ z. omega arith) (λ y z. omega arith) (λ y z. omega arith) (omega arith)
+
+pub returns-in-9-4 : goal.returns-in-9-4
+returns-in-9-4 c =
+    two c.args.s.now (λ i. (c.type_inv.s i).fits) c.if-s-lt2.false c.unit.result c.unit.ensures.0 (λ z. omega arith) (λ z. omega arith) (λ z. omega arith) (λ y z. omega arith) (λ y z. omega arith) (omega arith)

@@ -1,49 +1,33 @@
 -- `fit_octets` meets its contract: what was seen, with what is to come, is letters where the whole is.
 -- Assumes nothing.
-use native.Mathlib.Omega.{arith}
-use mathlib.Core.Path.{◌≡◌, refl}
-use mathlib.Core.Bool.{◌&&◌}
-use Prim.Native.Nat.{◌+◌}
+use mathlib.Core.Path.{refl, ◌∙◌}
+use Rattle.std.proofs.lemmas.Bool.{not-true}
 use Rattle.format.specs.Forms.{numeric, dates}
 use Rattle.forms.specs.Streams.{part}
-use Rattle.forms.proofs.Streams.{part_none, part_cons}
-use Rattle.forms.proofs.Packs.{and_then, and_else, seen_next, seen_end, seen_not}
+use Rattle.forms.proofs.Streams.{drop_next, drop_end}
+use Rattle.forms.proofs.Packs.{seen_next, seen_end, seen_not}
 use Rattle.forms.proofs.packing.fit_octets.Goals as goal
-use Rattle.forms.proofs.packing.fit_octets.Goals.{then-n, else-n, then-d, else-d}
 
-pub loop-i-init : goal.loop-i-init
-loop-i-init c = (c.requires.0, refl, refl)
+pub loop-o-init : goal.loop-o-init
+loop-o-init c = (refl, refl)
 
-pub returns-then-not-d : goal.returns-then-not-d
-returns-then-not-d c =
-    let a = c.args in
-    let p = c.requires in
-    let l = c.loop-i in
-    let e = part_cons a.s.now l.i a.to (omega arith) p.1 in
-    let f = c.fit_octet-f in
-    let m : c.if-n.n ≡ (l.n && f.result.numeric) = elim c.if-n.branch [ then-n w ↦ and_then _ _ _ w.if-n.true w.n-is | else-n w ↦ and_else _ _ _ w.if-n.false w.n-is ] in
-    let k : c.if-d.d ≡ (l.d && f.result.dates) = elim c.if-d.branch [ then-d w ↦ and_then _ _ _ w.if-d.true w.d-is | else-d w ↦ and_else _ _ _ w.if-d.false w.d-is ] in
-    let n = seen_next numeric l.n _ _ l.invariant.1 _ _ _ _ e f.ensures.0 m in
-    let d = seen_next dates l.d _ _ l.invariant.2 _ _ _ _ e f.ensures.1 k in
-    let q = part a.s.now (l.i + 1) a.to in
-    (seen_not numeric c.if-n.n q _ n c.if-not-n.true, seen_not dates c.if-d.d q _ d c.if-not-d.true)
+pub returns-then-not-all-2 : goal.returns-then-not-all-2
+returns-then-not-all-2 c =
+    let l = c.loop-o.invariant in
+    let f = c.fit_octet.ensures in
+    let g = drop_next (part c.args.s.now c.args.from c.args.to) c.loop-o.o-index c.loop-o-test.true in
+    let n = not-true _ c.if-not-all.true in
+    let d = not-true _ c.if-not-all-2.true in
+    (n ∙ seen_not numeric _ _ _ (seen_next numeric _ _ _ l.0 _ _ _ _ g f.0 c.and-all.ensures.0) n, d ∙ seen_not dates _ _ _ (seen_next dates _ _ _ l.1 _ _ _ _ g f.1 c.and-all.ensures.1) d)
 
-pub loop-i-preserved : goal.loop-i-preserved
-loop-i-preserved c =
-    let a = c.args in
-    let p = c.requires in
-    let l = c.loop-i in
-    let e = part_cons a.s.now l.i a.to (omega arith) p.1 in
-    let f = c.fit_octet-f in
-    let m : c.if-n.n ≡ (l.n && f.result.numeric) = elim c.if-n.branch [ then-n w ↦ and_then _ _ _ w.if-n.true w.n-is | else-n w ↦ and_else _ _ _ w.if-n.false w.n-is ] in
-    let k : c.if-d.d ≡ (l.d && f.result.dates) = elim c.if-d.branch [ then-d w ↦ and_then _ _ _ w.if-d.true w.d-is | else-d w ↦ and_else _ _ _ w.if-d.false w.d-is ] in
-    let n = seen_next numeric l.n _ _ l.invariant.1 _ _ _ _ e f.ensures.0 m in
-    let d = seen_next dates l.d _ _ l.invariant.2 _ _ _ _ e f.ensures.1 k in
-    (omega arith, n, d)
+pub loop-o-preserved : goal.loop-o-preserved
+loop-o-preserved c =
+    let l = c.loop-o.invariant in
+    let f = c.fit_octet.ensures in
+    let g = drop_next (part c.args.s.now c.args.from c.args.to) c.loop-o.o-index c.loop-o-test.true in
+    (seen_next numeric _ _ _ l.0 _ _ _ _ g f.0 c.and-all.ensures.0, seen_next dates _ _ _ l.1 _ _ _ _ g f.1 c.and-all.ensures.1)
 
 pub returns : goal.returns
 returns c =
-    let a = c.args in
-    let l = c.loop-i in
-    let e = part_none a.s.now l.i a.to (omega arith) in
-    (seen_end numeric _ _ _ l.invariant.1 e, seen_end dates _ _ _ l.invariant.2 e)
+    let e = drop_end (part c.args.s.now c.args.from c.args.to) c.loop-o.o-index c.loop-o-test.false in
+    (seen_end numeric _ _ _ c.loop-o.invariant.0 e, seen_end dates _ _ _ c.loop-o.invariant.1 e)

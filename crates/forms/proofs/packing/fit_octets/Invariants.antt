@@ -1,13 +1,11 @@
 -- `fit_octets` meets its contract: what was seen, with what is to come, is letters where the whole is.
 -- Assumes nothing.
-use Prim.Native.Nat.{◌-◌, ◌≤◌}
+use lib.ListN.{drop}
 use Rattle.format.specs.Forms.{numeric, dates}
 use Rattle.forms.specs.Streams.{part}
 use Rattle.forms.proofs.Packs.{Seen}
 use Rattle.forms.proofs.packing.fit_octets.Given as goal
 
-abbrev pub invariant-loop-i : goal.invariant-loop-i
-invariant-loop-i l = (l.i ≤ l.to) × Seen numeric l.n (part l.s l.i l.to) (part l.s l.from l.to) × Seen dates l.d (part l.s l.i l.to) (part l.s l.from l.to)
-
-abbrev pub decreases-loop-i : goal.decreases-loop-i
-decreases-loop-i l = l.to - l.i
+abbrev pub invariant-loop-o : goal.invariant-loop-o
+invariant-loop-o l =
+    Seen numeric l.all.numeric (drop l.o-index (part l.s l.from l.to)) (part l.s l.from l.to) × Seen dates l.all.dates (drop l.o-index (part l.s l.from l.to)) (part l.s l.from l.to)

@@ -1,67 +1,55 @@
--- `pack_octets` meets its contract: two octets are put in one, behind those before, and the last alone where it is left over.
+-- `pack_octets` meets its contract: two octets are put in one, after those before, and the last alone where it is left over.
 -- Assumes nothing.
 use borrow.Author.Rules.{rules}
-use native.Mathlib.Omega.{arith}
-use mathlib.Core.Path.{refl}
+use mathlib.Core.Path.{refl, ◌∙◌}
+use Rattle.std.proofs.lemmas.List.{nil_from_length}
 use Rattle.forms.specs.Packing.{alphabet}
 use Rattle.forms.specs.Streams.{part}
 use Rattle.forms.proofs.Forms.{packed-length}
-use Rattle.forms.proofs.Streams.{part_none, part_length}
-use Rattle.forms.proofs.Puts.{left_done, left_next, left-place, left-kept}
-use Rattle.forms.proofs.Packs.{pack_none, slice_first, slice_last, slice_second, slice_two}
+use Rattle.forms.proofs.Streams.{part_length}
+use Rattle.forms.proofs.Puts.{left_done, left_next, left-place}
+use Rattle.forms.proofs.Packs.{in_pairs, pack_none}
 use Rattle.forms.proofs.packing.pack_octets.Goals as goal
+use Rattle.forms.proofs.packing.pack_octets.Goals.{then-pair-eq2, else-pair-eq2}
 
-pub loop-i-init : goal.loop-i-init
-loop-i-init c = (c.requires.1, c.requires.4, λ r out' p. p)
+pub loop-pair-init : goal.loop-pair-init
+loop-pair-init c =
+    rw (c.into_iter-pair-iterator.ensures.into_iter_gives, c.chunks-pair-items.ensures.rest, c.chunks-pair-items.ensures.size)
+    (refl, c.requires.4, λ r out' p. p)
 
 pub place_in-high-requires : goal.place_in-high-requires
-place_in-high-requires c = slice_first _ _ _ _ c.requires.2 c.loop-i.invariant.1 (omega (arith, c.loop-i-test.true))
+place_in-high-requires c =
+    let s = c.in-Some.ensures.steps in
+    let l = c.loop-pair.invariant in
+    (in_pairs (alphabet c.args.letters) _ _ _ s.1.0 (rw l.0 at s.1.1) s.1.2 l.1).first
 
-pub place_in-requires : goal.place_in-requires
-place_in-requires c = (slice_second _ _ _ _ c.requires.2 c.loop-i-test.true c.loop-i.invariant.1).0
+pub place_in-low-requires : goal.place_in-low-requires
+place_in-low-requires c =
+    let s = c.in-Some.ensures.steps in
+    let l = c.loop-pair.invariant in
+    (in_pairs (alphabet c.args.letters) _ _ _ s.1.0 (rw l.0 at s.1.1) s.1.2 l.1).second c.if-pair-eq2.true
 
-pub overflow_add-behind : goal.overflow_add-behind
-overflow_add-behind c =
+pub overflow_add-i : goal.overflow_add-i
+overflow_add-i c =
     let a = c.args in
     let p = c.requires in
-    let e = left-place _ _ _ _ _ _ c.loop-i.invariant.2 in
+    let e = left-place _ _ _ _ _ _ c.loop-pair.invariant.2 in
     let n = packed-length (alphabet a.letters) (part a.s.now a.from a.to) in
     let m = part_length a.s.now a.from a.to p.2 in
     search rules
 
-pub loop-i-preserved : goal.loop-i-preserved
-loop-i-preserved c =
-    let p = c.requires in
-    let l = c.loop-i in
-    let m = c.loop-i-test.true in
-    (omega (arith, m), (slice_second _ _ _ _ p.2 m l.invariant.1).1, left_next _ _ _ _ _ _ _ _ _ (slice_two _ _ _ _ p.2 m _ _ c.place_in-high.ensures.0 c.place_in.ensures.0) c.put.ensures l.invariant.2)
-
-pub place_in-requires-then-i-to : goal.place_in-requires-then-i-to
-place_in-requires-then-i-to c = slice_first _ _ _ _ c.requires.2 c.loop-i.invariant.1 c.if-i-to.true
-
-pub overflow_add-result : goal.overflow_add-result
-overflow_add-result c =
-    let a = c.args in
-    let p = c.requires in
-    let e = left-place _ _ _ _ _ _ c.loop-i.invariant.2 in
-    let n = packed-length (alphabet a.letters) (part a.s.now a.from a.to) in
-    let m = part_length a.s.now a.from a.to p.2 in
-    search rules
-
-pub shape_of-out-then-i-to : goal.shape_of-out-then-i-to
-shape_of-out-then-i-to c =
-    let l = c.loop-i in
-    let f = slice_last _ _ _ _ c.requires.2 c.if-i-to.true c.loop-i-test.false _ c.place_in-then-i-to.ensures.0 in
-    left-kept _ _ _ _ _ _ (left_next _ _ _ _ _ _ _ _ _ f c.put-then-i-to.ensures l.invariant.2)
-
-pub returns-then-i-to : goal.returns-then-i-to
-returns-then-i-to c =
-    let l = c.loop-i in
-    let f = slice_last _ _ _ _ c.requires.2 c.if-i-to.true c.loop-i-test.false _ c.place_in-then-i-to.ensures.0 in
-    left_done _ _ _ _ _ _ refl (left_next _ _ _ _ _ _ _ _ _ f c.put-then-i-to.ensures l.invariant.2)
-
-pub shape_of-out : goal.shape_of-out
-shape_of-out c = left-kept _ _ _ _ _ _ c.loop-i.invariant.2
+pub loop-pair-preserved : goal.loop-pair-preserved
+loop-pair-preserved c =
+    let s = c.in-Some.ensures.steps in
+    let l = c.loop-pair.invariant in
+    let p = in_pairs (alphabet c.args.letters) _ _ _ s.1.0 (rw l.0 at s.1.1) s.1.2 l.1 in (
+      s.0 ∙ l.0,
+      p.after,
+      elim c.if-pair-eq2.branch [
+        | then-pair-eq2 w ↦ left_next _ _ _ _ _ _ _ _ _ (p.two w.if-pair-eq2.true _ _ c.place_in-high.ensures.0 (w.low-is ∙ w.place_in-low.ensures.0)) c.put.ensures l.2
+        | else-pair-eq2 w ↦ left_next _ _ _ _ _ _ _ _ _ (p.one w.if-pair-eq2.false _ c.place_in-high.ensures.0) (rw w.low-is at c.put.ensures) l.2
+      ],
+    )
 
 pub returns : goal.returns
-returns c = left_done _ _ _ _ _ _ (pack_none _ _ (part_none _ _ _ c.if-i-to.false)) c.loop-i.invariant.2
+returns c = left_done _ _ _ _ _ _ (pack_none _ _ (nil_from_length _ c.in-None.ensures.steps.1.0)) c.loop-pair.invariant.2

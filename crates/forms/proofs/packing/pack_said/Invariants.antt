@@ -10,7 +10,7 @@ use Rattle.forms.proofs.packing.pack_said.Given as goal
 
 abbrev pub invariant-loop-o : goal.invariant-loop-o
 invariant-loop-o l =
-    Fine l.s l.u × (all_letters (alphabet l.letters) (ahead l.s l.u) ≡ true) × Left l.initial.out l.at (packed_by (alphabet l.letters) (ahead l.s l.initial.u)) l.out l.i (packed_by (alphabet l.letters) (ahead l.s l.u))
+    Fine l.u × (all_letters (alphabet l.letters) (ahead l.u) ≡ true) × Left l.initial.out l.at (packed_by (alphabet l.letters) (ahead l.initial.u)) l.out l.i (packed_by (alphabet l.letters) (ahead l.u))
 
 abbrev pub decreases-loop-o : goal.decreases-loop-o
-decreases-loop-o l = length (ahead l.s l.u)
+decreases-loop-o l = length (ahead l.u)

@@ -9,11 +9,11 @@ find_name-requires c =
 
 pub returns-then-find_name-ne0 : goal.returns-then-find_name-ne0
 returns-then-find_name-ne0 c =
-    adds_held _ _ _ _ _ _ _ c.args.x c.requires c.find_name.ensures c.if-find_name-ne0.true
+    rw c.at.ensures (adds_held _ _ _ _ _ _ _ c.args.x c.requires c.find_name.ensures c.if-find_name-ne0.true)
 
 pub returns-then-n-ge-ENTRIES : goal.returns-then-n-ge-ENTRIES
 returns-then-n-ge-ENTRIES c =
-    adds_full _ _ _ _ _ _ _ c.args.x c.requires c.find_name.ensures c.if-find_name-ne0.false c.if-n-ge-ENTRIES.true
+    rw c.at-then-n-ge-ENTRIES.ensures (adds_full _ _ _ _ _ _ _ c.args.x c.requires c.find_name.ensures c.if-find_name-ne0.false c.if-n-ge-ENTRIES.true)
 
 pub returns : goal.returns
 returns c =

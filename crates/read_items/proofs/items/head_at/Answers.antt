@@ -18,4 +18,4 @@ returns-then-octet c =
 
 pub returns : goal.returns
 returns c =
-    tells_declared _ _ c.declared_head.ensures c.requires.0 (shallow_declaring _ _ c.requires.2 (omega arith)) (λ w. item_declaring _ _ _ _ (omega arith) ∙ declaring_more _ _ _ _ (λ e. omega (arith, c.octet.ensures, c.if-octet.false)))
+    tells_declared c.requires.0 (shallow_declaring _ _ c.requires.2 (omega arith)) (λ w. item_declaring _ _ _ _ (omega arith) ∙ declaring_more _ _ _ _ (λ e. omega (arith, c.octet.ensures, c.if-octet.false)))

@@ -7,10 +7,3 @@ use Rattle.read_items.proofs.items.keep_named.Goals as goal
 
 pub returns-then-not-has_record : goal.returns-then-not-has_record
 returns-then-not-has_record c = kept_not _ _ _ _ (ltb-false _ _ (sym c.has_record.ensures ∙ c.if-not-has_record.true))
-
-pub strings_of-x-requires : goal.strings_of-x-requires
-strings_of-x-requires c =
-    c.requires.0
-
-pub returns : goal.returns
-returns c = rw (← c.strings_of-x.ensures) c.keep.ensures

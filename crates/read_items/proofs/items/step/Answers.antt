@@ -1,6 +1,5 @@
 -- `step` meets its contract: an end, padding, or an item.
 -- Assumes nothing.
-use native.Mathlib.Omega.{arith}
 use mathlib.Core.Path.{sym, ◌∙◌}
 use Rattle.read_items.proofs.StepLaws.{met_by, refuse_here}
 use Rattle.read_items.proofs.EndLaws.{ends_low, ends_within}
@@ -22,14 +21,10 @@ returns-then-ends_here c =
 
 pub returns-then-not-pads_at : goal.returns-then-not-pads_at
 returns-then-not-pads_at c =
-    rw c.stop.ensures.0
-    (refuse_here c.requires c.stop.ensures.1 (step_padding _ _
+    rw c.at.ensures
+    (refuse_here c.requires (step_padding _ _
     (sym c.if-ends_here.false ∙ c.ends_here.ensures)
     (sym c.if-not-pads_at.true ∙ c.pads_at.ensures)))
-
-pub item_at-requires : goal.item_at-requires
-item_at-requires c =
-    (c.requires, omega arith)
 
 pub returns : goal.returns
 returns c =

@@ -1,19 +1,18 @@
 -- `formed` meets its contract: its octets are judged, and added where the bit says so.
 -- Assumes nothing.
-use mathlib.Core.Path.{sym, ◌∙◌}
 use native.Mathlib.Omega.{arith}
-use Rattle.read_names.proofs.StringLaws.{stretch_within, formed_not, formed_added}
+use Rattle.read_names.proofs.StringLaws.{handed_on, judged_within, formed_not, formed_added}
 use Rattle.read_names.proofs.strings.formed.Goals as goal
 
 pub added-requires : goal.added-requires
 added-requires c =
-    let l = (stretch_within _ _ _ _ _ _ (sym c.in-Got.is ∙ c.stretch.ensures)).1 in
+    let l = judged_within _ _ _ _ c.in_ok-judge.ensures in
     (c.requires.0, c.requires.1, c.requires.3, omega arith)
 
-pub returns-in-Refused : goal.returns-in-Refused
-returns-in-Refused c =
-    λ x tidy l. formed_not _ _ _ x _ _ tidy c.requires.3 _ _ _ c.requires.4 _ c.stretch.ensures _ _ c.in-Refused.is
+pub returns-in_err-judge : goal.returns-in_err-judge
+returns-in_err-judge c =
+    λ x tidy l. rw (handed_on _ _ c.from_residual.ensures) (formed_not _ _ _ x _ _ tidy c.requires.3 _ _ _ c.requires.4 _ c.in_err-judge.ensures)
 
-pub returns-in-Got : goal.returns-in-Got
-returns-in-Got c =
-    λ x tidy l. formed_added _ _ _ x _ _ tidy c.requires.3 _ _ _ c.requires.4 _ c.stretch.ensures l _ _ c.in-Got.is c.added.result _ _ c.added.ensures
+pub returns : goal.returns
+returns c =
+    λ x tidy l. formed_added _ _ _ x _ _ tidy c.requires.3 _ _ _ c.requires.4 l c.in_ok-judge.ensures c.added.result _ _ c.added.ensures

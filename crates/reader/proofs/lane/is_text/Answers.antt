@@ -1,19 +1,13 @@
--- `is_text` meets its contract: one or two octets that are plain, or what the fields say.
+-- `is_text` meets its contract: one or two octets that are plain are text.
 -- Assumes nothing.
 use native.Mathlib.Omega.{arith}
 use mathlib.Core.Path.{sym, ◌∙◌}
-use mathlib.Core.Bool.{true≢false}
-use Rattle.reader.proofs.LaneLaws.{few_text}
+use Rattle.reader.proofs.LaneLaws.{one_text, two_text}
 use Rattle.reader.proofs.lane.is_text.Goals as goal
 
-pub returns-then-to-from-gt2 : goal.returns-then-to-from-gt2
-returns-then-to-from-gt2 c = λ e. sym e ∙ c.is_text.ensures
+pub returns-in-len1 : goal.returns-in-len1
+returns-in-len1 c = one_text _ (omega arith) (sym c.is_plain.ensures ∙ c.if-is_plain.true)
 
-pub returns-then-is_plain : goal.returns-then-is_plain
-returns-then-is_plain c = λ e.
-    let a = c.args in
-    let first = sym c.is_plain.ensures ∙ c.if-is_plain.true in
-    few_text a.s.now a.from a.to (omega arith) (omega arith) (omega arith) first (sym c.is_plain-then-is_plain.ensures ∙ e)
-
-pub returns-else-is_plain : goal.returns-else-is_plain
-returns-else-is_plain c = λ e. absurd (true≢false (sym e ∙ c.if-is_plain.false))
+pub returns-in-len2 : goal.returns-in-len2
+returns-in-len2 c =
+    two_text _ (omega arith) (sym c.is_plain-then-octets-lt3.ensures ∙ c.if-is_plain-2.true) (sym c.is_plain-then-is_plain-2.ensures ∙ c.if-is_plain-3.true)

@@ -1,49 +1,27 @@
--- `opened` meets its contract: a law for each test.
+-- `opened` meets its contract: a law for each octet that may stand after the identification.
 -- Assumes nothing.
-use mathlib.Core.Path.{sym, ◌∙◌}
 use native.Mathlib.Omega.{arith}
-use Rattle.reader.proofs.RunLaws.{size-most, open_size, open_short, open_other, open_four, open_padding, open_optional, open_onward, open_headed}
+use Rattle.reader.proofs.RunLaws.{open_other, open_short, open_body, open_head, open_padding, open_optional}
 use Rattle.reader.proofs.run.opened.Goals as goal
 
-pub returns-then-not-sized : goal.returns-then-not-sized
-returns-then-not-sized c = record { is = open_size _ (sym c.if-not-sized.true ∙ c.sized.ensures); within = omega arith }
+pub returns-then-not-starts_with : goal.returns-then-not-starts_with
+returns-then-not-starts_with c =
+    open_other _ c.sized.ensures c.if-not-sized.false (omega arith) c.starts_with.ensures.value c.if-not-starts_with.true c.at-then-not-starts_with.ensures
 
-pub returns-then-s-lt-FIRST : goal.returns-then-s-lt-FIRST
-returns-then-s-lt-FIRST c =
-    let size = sym c.if-not-sized.false ∙ c.sized.ensures in
-    record { is = open_short _ size (omega arith); within = omega arith }
+pub returns-then-s-eq-FIRST : goal.returns-then-s-eq-FIRST
+returns-then-s-eq-FIRST c =
+    open_short _ c.sized.ensures c.if-not-sized.false (omega arith) c.starts_with.ensures.value c.if-not-starts_with.false c.if-s-eq-FIRST.true c.at-then-s-eq-FIRST.ensures
 
-pub returns-then-not-headed : goal.returns-then-not-headed
-returns-then-not-headed c =
-    let size = sym c.if-not-sized.false ∙ c.sized.ensures in
-    record { is = open_other _ size (omega arith) (sym c.if-not-headed.true ∙ c.headed.ensures); within = omega arith }
+pub returns-in-0 : goal.returns-in-0
+returns-in-0 c = open_body _ c.sized.ensures c.if-not-sized.false (omega arith) c.starts_with.ensures.value c.if-not-starts_with.false c.if-s-eq-FIRST.false c.in-0.is
 
-pub returns-then-s-lt-BODY : goal.returns-then-s-lt-BODY
-returns-then-s-lt-BODY c =
-    let size = sym c.if-not-sized.false ∙ c.sized.ensures in
-    let first = sym c.if-not-headed.false ∙ c.headed.ensures in
-    record { is = open_four _ size (omega arith) first (omega arith); within = omega arith }
+pub returns-in-32 : goal.returns-in-32
+returns-in-32 c = open_head _ c.sized.ensures c.if-not-sized.false (omega arith) c.starts_with.ensures.value c.if-not-starts_with.false c.if-s-eq-FIRST.false c.in-32.is
 
-pub returns-then-o-ge128 : goal.returns-then-o-ge128
-returns-then-o-ge128 c =
-    let size = sym c.if-not-sized.false ∙ c.sized.ensures in
-    let first = sym c.if-not-headed.false ∙ c.headed.ensures in
-    record { is = open_padding _ size (omega arith) first (omega arith) (omega arith); within = omega arith }
+pub returns-in-128-to-255 : goal.returns-in-128-to-255
+returns-in-128-to-255 c =
+    open_padding _ c.sized.ensures c.if-not-sized.false (omega arith) c.starts_with.ensures.value c.if-not-starts_with.false c.if-s-eq-FIRST.false (omega arith) c.at-in-128-to-255.ensures
 
-pub returns-then-o-eq0 : goal.returns-then-o-eq0
-returns-then-o-eq0 c =
-    let size = sym c.if-not-sized.false ∙ c.sized.ensures in
-    let first = sym c.if-not-headed.false ∙ c.headed.ensures in
-    record { is = open_onward _ size (omega arith) first (omega arith) (omega arith) (omega arith); within = (omega arith, size-most _ size) }
-
-pub returns-then-o-ne-HEAD : goal.returns-then-o-ne-HEAD
-returns-then-o-ne-HEAD c =
-    let size = sym c.if-not-sized.false ∙ c.sized.ensures in
-    let first = sym c.if-not-headed.false ∙ c.headed.ensures in
-    record { is = open_optional _ size (omega arith) first (omega arith) (omega arith) (omega arith) (omega arith); within = omega arith }
-
-pub returns : goal.returns
-returns c =
-    let size = sym c.if-not-sized.false ∙ c.sized.ensures in
-    let first = sym c.if-not-headed.false ∙ c.headed.ensures in
-    record { is = open_headed _ size (omega arith) first (omega arith) (omega arith) (omega arith) (omega arith); within = (omega arith, size-most _ size) }
+pub returns-in_default : goal.returns-in_default
+returns-in_default c =
+    open_optional _ c.sized.ensures c.if-not-sized.false (omega arith) c.starts_with.ensures.value c.if-not-starts_with.false c.if-s-eq-FIRST.false (omega arith) (omega arith) (omega arith) c.at-in_default.ensures

@@ -1,27 +1,15 @@
 -- `reading` meets its contract: what stands before the first item is refused, or a run comes to its end.
 -- Assumes nothing.
 use mathlib.Core.Path.{refl}
-use Rattle.reader.proofs.RunLaws.{halt_place, body_start, ran_halt, ran_onward}
+use Rattle.read_names.proofs.StringLaws.{handed_on}
+use Rattle.reader.proofs.RunLaws.{ran_fault, ran_onward}
 use Rattle.reader.proofs.run.reading.Goals as goal
 
-pub begun-requires : goal.begun-requires
-begun-requires c =
-    let pre = c.requires in
-    (pre.0, pre.1, refl)
-
-pub refused-requires : goal.refused-requires
-refused-requires c =
-    (halt_place c.begun.ensures c.in-Refused.is).1
+pub returns-in_err-body : goal.returns-in_err-body
+returns-in_err-body c = rw (handed_on _ _ c.from_residual.ensures) (ran_fault c.in_err-body.ensures refl)
 
 pub steps-requires : goal.steps-requires
-steps-requires c =
-    body_start c.begun.ensures c.in-Behind.is
+steps-requires c = c.in_ok-body.ensures.within
 
-pub returns-in-Refused : goal.returns-in-Refused
-returns-in-Refused c =
-    ran_halt c.begun.ensures c.in-Refused.is c.refused.ensures
-
-pub returns-in-Behind : goal.returns-in-Behind
-returns-in-Behind c =
-    let begun = c.begun in
-    ran_onward begun.ensures c.in-Behind.is c.steps.ensures
+pub returns : goal.returns
+returns c = ran_onward c.in_ok-body.ensures c.steps.ensures

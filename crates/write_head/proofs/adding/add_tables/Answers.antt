@@ -3,30 +3,34 @@
 use native.Mathlib.Omega.{arith}
 use mathlib.Core.Path.{◌≡◌, sym, ◌∙◌}
 use Rattle.tables.proofs.Found.{clash}
-use Rattle.write_head.proofs.RowLaws.{few_at, below_none, below_more, all_keep, one_breaks}
-use Rattle.write_head.proofs.AddLaws.{tables_more}
+use Rattle.write_head.proofs.RowLaws.{few_at, below_none, below_more, all_tables, one_breaks}
+use Rattle.write_head.proofs.AddLaws.{tables_more, tells_held}
 use Rattle.write_head.proofs.adding.add_tables.Goals as goal
 
 pub loop-table-init : goal.loop-table-init
-loop-table-init c = (record { order = c.requires.0; tables = c.requires.4; fresh = λ j h. c.requires.5 j }, omega arith, below_none _)
+loop-table-init c = (record { order = c.requires.0; tables = c.requires.4; fresh = λ j h. c.requires.5 j }, below_none _)
 
 pub add_rows-requires : goal.add_rows-requires
-add_rows-requires c = let l = c.loop-table in let f = l.invariant.0.fresh l.table (omega arith) in let k = few_at c.args.given.now l.table c.requires.3 (omega arith) in (l.invariant.0.order, omega arith, c.requires.1, c.requires.2, omega arith, l.invariant.0.tables, c.requires.6)
+add_rows-requires c =
+    let l = c.loop-table in
+    let f = l.invariant.0.fresh l.table (omega arith) in
+    let k = few_at c.args.given.now l.table c.requires.3 (omega arith) in
+    (l.invariant.0.order, omega arith, c.requires.1, c.requires.2, omega arith, l.invariant.0.tables, c.requires.6)
 
-pub returns-then-not-add_rows : goal.returns-then-not-add_rows
-returns-then-not-add_rows c = (one_breaks _ _ _ _ (omega arith) (sym c.if-not-add_rows.true ∙ c.add_rows.ensures.0), λ e. clash e)
+pub returns-in_err-add_rows : goal.returns-in_err-add_rows
+returns-in_err-add_rows c =
+    let told = c.in_err-add_rows.ensures.0 in
+    let held = one_breaks _ _ _ _ (omega arith) told.0 in
+    (tells_held _ _ _ c.from_residual.ensures.1 told.1 held, λ e. clash (sym held ∙ e))
 
 pub loop-table-preserved : goal.loop-table-preserved
-loop-table-preserved c = let l = c.loop-table in (tables_more _ _ _ l.invariant.0 (c.add_rows.ensures.1 c.if-not-add_rows.false), omega arith, below_more _ _ l.invariant.2 (sym c.add_rows.ensures.0 ∙ c.if-not-add_rows.false))
-
-pub shape_of-t : goal.shape_of-t
-shape_of-t c = c.loop-table.invariant.0.order.room ∙ sym c.requires.0.room
-
-pub shape_of-counts : goal.shape_of-counts
-shape_of-counts c = c.loop-table.invariant.0.order.ten ∙ sym c.requires.0.ten
-
-pub shape_of-index : goal.shape_of-index
-shape_of-index c = c.loop-table.invariant.0.order.indexed.size ∙ sym c.requires.0.indexed.size
+loop-table-preserved c =
+    let l = c.loop-table in
+    let told = c.in_ok-add_rows.ensures in
+    (tables_more _ _ _ l.invariant.0 (told.1 told.0), below_more _ _ l.invariant.1 told.0)
 
 pub returns : goal.returns
-returns c = let l = c.loop-table in let e : l.table ≡ 10 = omega arith in (all_keep _ _ _ _ l.invariant.2 (omega arith) (omega arith), λ k. (rw (← e) l.invariant.0.tables, l.invariant.0.order))
+returns c =
+    let l = c.loop-table in
+    let e : l.table ≡ 10 = omega arith in
+    (all_tables _ _ _ _ e l.invariant.1, λ k. (rw (← e) l.invariant.0.tables, l.invariant.0.order))

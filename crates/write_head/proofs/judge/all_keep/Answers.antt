@@ -1,21 +1,20 @@
--- `all_keep` meets its contract: the tables before keep to the rule.
+-- `all_keep` meets its contract: the rows of the tables before, and those before in this one, keep to the rule.
 -- Assumes nothing.
 use native.Mathlib.Omega.{arith}
-use mathlib.Core.Path.{sym, ◌∙◌}
-use Rattle.write_head.proofs.RowLaws.{below_none, below_more, all_keep, one_breaks}
+use Rattle.std.proofs.Common.{below_more}
 use Rattle.write_head.proofs.judge.all_keep.Goals as goal
 
 pub loop-table-init : goal.loop-table-init
-loop-table-init c = (below_none _, omega arith)
+loop-table-init g c = λ t h. absurd (omega arith)
 
-pub table_keeps-requires : goal.table_keeps-requires
-table_keeps-requires c = (c.requires.0, omega arith, c.requires.1)
+pub loop-i-init : goal.loop-i-init
+loop-i-init g c = λ j h. absurd (omega arith)
 
-pub returns-then-not-table_keeps : goal.returns-then-not-table_keeps
-returns-then-not-table_keeps c = one_breaks _ _ _ _ (omega arith) (sym c.if-not-table_keeps.true ∙ c.table_keeps.ensures)
+pub loop-i-preserved : goal.loop-i-preserved
+loop-i-preserved g c = below_more _ _ c.loop-i.invariant (rw c.if-not-keeps.false at c.keeps.ensures)
 
 pub loop-table-preserved : goal.loop-table-preserved
-loop-table-preserved c = (below_more _ _ c.loop-table.invariant.0 (sym c.table_keeps.ensures ∙ c.if-not-table_keeps.false), omega arith)
+loop-table-preserved g c = below_more _ _ c.loop-table.invariant (λ i h. c.loop-i.invariant i (omega arith))
 
-pub returns : goal.returns
-returns c = let l = c.loop-table in all_keep _ _ _ _ l.invariant.0 (omega arith) (omega arith)
+pub returns-clause-all : goal.returns-clause-all
+returns-clause-all g c = λ e t i h l. c.loop-table.invariant t (omega arith) i l

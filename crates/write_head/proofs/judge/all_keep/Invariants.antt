@@ -1,13 +1,12 @@
--- `all_keep` meets its contract: the tables before keep to the rule.
+-- `all_keep` meets its contract: the rows of the tables before, and those before in this one, keep to the rule.
 -- Assumes nothing.
-use mathlib.Core.Path.{◌≡◌}
 use mathlib.Core.Bool.{true}
-use Prim.Native.Nat.{◌-◌, ◌≤◌}
-use Rattle.write_head.specs.RowContracts.{below, keeps_table}
+use Prim.Native.Nat.{ℕ, ◌<◌}
+use lib.ListN.{get_or}
 use Rattle.write_head.proofs.judge.all_keep.Given as goal
 
-abbrev pub invariant-loop-table : goal.invariant-loop-table
-invariant-loop-table l = (below (keeps_table l.rule l.text l.given) l.table ≡ true) × (l.table ≤ 10)
+abbrev pub invariant-loop-i : goal.invariant-loop-i
+invariant-loop-i g l = (j : ℕ) → j < l.i → goal.F-post g l.keeps l.table j true
 
-abbrev pub decreases-loop-table : goal.decreases-loop-table
-decreases-loop-table l = 10 - l.table
+abbrev pub invariant-loop-table : goal.invariant-loop-table
+invariant-loop-table g l = (t : ℕ) → t < l.table → (i : ℕ) → i < get_or l.given t 0 → goal.F-post g l.keeps t i true

@@ -2,12 +2,8 @@
 -- Assumes nothing.
 use mathlib.Core.Path.{◌≡◌}
 use mathlib.Core.Bool.{true}
-use Prim.Native.Nat.{◌-◌, ◌≤◌}
 use Rattle.write_head.specs.RowContracts.{below, few_table}
 use Rattle.write_head.proofs.judge.are_few.Given as goal
 
 abbrev pub invariant-loop-table : goal.invariant-loop-table
-invariant-loop-table l = (below (few_table l.given) l.table ≡ true) × (l.table ≤ 10)
-
-abbrev pub decreases-loop-table : goal.decreases-loop-table
-decreases-loop-table l = 10 - l.table
+invariant-loop-table l = below (few_table l.given) l.table ≡ true

@@ -1,8 +1,7 @@
 -- `attribute` meets its contract: a law for each way out.
 -- Assumes nothing.
-use borrow.Author.Rules.{rules}
 use native.Mathlib.Omega.{arith}
-use mathlib.Core.Path.{refl}
+use Rattle.std.proofs.lemmas.Result.{err_from_is_err_and}
 use Rattle.events.specs.declared.Kind.TheVariants.{Attribute}
 use Rattle.write_items.proofs.WellMade.{by_kind}
 use Rattle.write_items.proofs.Strings.{attribute_fills}
@@ -13,42 +12,25 @@ pub name-requires : goal.name-requires
 name-requires c =
     (c.requires.order, omega arith, name_ready c.args.text.now 9 0 c.args.e _ c.name_of-name.ensures (omega arith) (omega arith) (omega arith) (by_kind c.args.text.now c.args.e Attribute c.requires.made).0)
 
-pub returns-in_default : goal.returns-in_default
-returns-in_default c =
-    (refl, attribute_full _ _ c.args.st c.args.counts.now _ c.args.e c.requires _ c.name_of-name.ensures (rw c.in_default.is at c.name.ensures))
+pub returns-in_err-after : goal.returns-in_err-after
+returns-in_err-after c =
+    let full = c.in_err-after.ensures in
+    let p = err_from_is_err_and c.from_residual.result c.from_residual.ensures.1 in
+    rw (p.1, p.2) (full.0, attribute_full _ _ c.args.st c.args.counts.now _ c.args.e c.requires _ c.name_of-name.ensures full.1)
 
 pub value-next-requires : goal.value-next-requires
 value-next-requires c =
-    let stands = rw c.in-Put.is at c.name.ensures in
-    let low = c.octet-at.ensures.1 in
+    let stands = c.in_ok-after.ensures in
+    let low = c.octet.ensures.1 in
     let few = stands.few in
     (stands.order, omega arith, omega arith, omega arith, attribute_fills c.args.text.now c.args.e c.requires.made c.requires.texts)
 
-pub landed-requires : goal.landed-requires
-landed-requires c =
-    let stands = rw c.in-Put.is at c.name.ensures in
-    let low = c.octet-at.ensures.1 in
-    let few = stands.few in
-    let most = c.value-next.ensures.few in
+pub moved-requires : goal.moved-requires
+moved-requires c =
+    let low = c.octet.ensures.1 in
+    let few = c.in_ok-after.ensures.few in
+    let last = c.value-next.ensures.few in
     omega arith
 
-pub shape_of-t : goal.shape_of-t
-shape_of-t c =
-    omega (arith, c.value-next.auto, c.name.auto)
-
-pub shape_of-counts : goal.shape_of-counts
-shape_of-counts c =
-    omega (arith, c.value-next.auto, c.name.auto)
-
-pub shape_of-index : goal.shape_of-index
-shape_of-index c =
-    omega (arith, c.value-next.auto, c.name.auto)
-
-pub shape_of-out : goal.shape_of-out
-shape_of-out c =
-    omega (arith, c.value-next.auto, c.name.auto)
-
 pub returns : goal.returns
-returns c =
-    let stands = rw c.in-Put.is at c.name.ensures in
-    rw c.landed.ensures (attribute_lands _ _ _ _ _ _ c.requires _ c.name_of-name.ensures c.octet-at.ensures stands c.value-next.ensures)
+returns c = rw c.moved.ensures (attribute_lands _ _ _ _ _ _ c.requires _ c.name_of-name.ensures c.octet.ensures c.in_ok-after.ensures c.value-next.ensures)

@@ -1,11 +1,14 @@
--- `put_end` meets its contract: the octet by the half that the end stands in.
+-- `put_end` meets its contract, in either half of an octet.
 -- Assumes nothing.
+use mathlib.Core.Path.{◌∙◌}
 use native.Mathlib.Omega.{arith}
 use Rattle.write_items.proofs.OutputLaws.{end_first, end_second}
+use Rattle.write_items.proofs.output.put_end.Goals.{then-at-eq0, else-at-eq0}
 use Rattle.write_items.proofs.output.put_end.Goals as goal
 
-pub returns-then-at-eq0 : goal.returns-then-at-eq0
-returns-then-at-eq0 c = rw (← (end_first c.args.at (omega arith))) c.put.ensures
-
-pub returns-else-at-eq0 : goal.returns-else-at-eq0
-returns-else-at-eq0 c = rw (← (end_second c.args.at (omega arith))) c.put-else-at-eq0.ensures
+pub returns : goal.returns
+returns c =
+    elim c.if-at-eq0.branch [
+      | then-at-eq0 w ↦ c.put.ensures ∙ rw (w.put-is, ← (end_first c.args.at (omega (arith, w.if-at-eq0.true))))
+      | else-at-eq0 w ↦ c.put.ensures ∙ rw (w.put-is, ← (end_second c.args.at (omega (arith, w.if-at-eq0.false))))
+    ]

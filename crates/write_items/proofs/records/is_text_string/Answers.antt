@@ -1,20 +1,14 @@
--- `is_text_string` meets its contract: by the tag.
+-- `is_text_string` meets its contract: a stretch is in utf-8, and what is no stretch is text.
 -- Assumes nothing.
-use mathlib.Core.Path.{◌∙◌, sym}
-use native.Mathlib.Omega.{arith}
-use Rattle.write_items.proofs.RecordLaws.{untagged_text, tagged_text, tagged_lies}
+use mathlib.Core.Path.{◌∙◌}
+use Rattle.format.specs.declared.StringForm.TheVariants.{Utf8}
+use Rattle.write_items.proofs.RecordLaws.{other_text, stretch_text}
 use Rattle.write_items.proofs.records.is_text_string.Goals as goal
 
-pub returns-then-tag-ne-STRETCH : goal.returns-then-tag-ne-STRETCH
-returns-then-tag-ne-STRETCH c = untagged_text _ c.args.x c.requires.1 (rw c.tag.ensures at c.if-tag-ne-STRETCH.true)
+pub returns-in-Stretch : goal.returns-in-Stretch
+returns-in-Stretch c =
+    let plain = rw c.in-Stretch.is at c.requires.1 in
+    c.is_text.ensures ∙ rw (c.in-Stretch.is, plain) (stretch_text _ Utf8 _ _)
 
-pub is_text-requires : goal.is_text-requires
-is_text-requires c =
-    let t = sym c.tag.ensures ∙ c.if-tag-ne-STRETCH.false in
-    let l = tagged_lies _ c.args.x t c.requires.0 in
-    (omega arith, rw (c.place-from.ensures, c.size.ensures) l)
-
-pub returns : goal.returns
-returns c =
-    let t = sym c.tag.ensures ∙ c.if-tag-ne-STRETCH.false in
-    c.is_text.ensures ∙ rw (c.place-from.ensures, c.size.ensures) (tagged_text _ c.args.x c.requires.1 t)
+pub returns-in_default : goal.returns-in_default
+returns-in_default c = other_text _ c.args.x c.in_default.not-Stretch

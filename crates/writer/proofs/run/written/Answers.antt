@@ -1,41 +1,54 @@
--- `written` meets its contract: all the records, then the end.
+-- `written` meets its contract: the head, all the records, then the end.
 -- Assumes nothing.
-use borrow.Author.Rules.{rules}
 use native.Mathlib.Omega.{arith}
-use Rattle.writer.proofs.RideLaws.{through_bounded, through_settled}
-use Rattle.writer.proofs.PhaseLaws.{readied}
-use Rattle.events.specs.FromWords.{records_of}
-use Rattle.writer.specs.RanContracts.{ran_of}
+use mathlib.Core.Path.{refl}
 use lib.ListN.{length}
+use Rattle.std.proofs.lemmas.Result.{err_from_is_err_and}
+use Rattle.std.specs.Prelude.{Ok, Err}
+use Rattle.events.specs.FromWords.{records_of}
+use Rattle.events.proofs.FromWords.{records_length}
+use Rattle.writer.proofs.RunLaws.{run_finished, underway_number}
+use Rattle.writer.proofs.StartLaws.{readied, readied_not, remains_in}
 use Rattle.writer.proofs.run.written.Goals as goal
 
-pub through-q-requires : goal.through-q-requires
-through-q-requires c =
+pub returns-in_err-first : goal.returns-in_err-first
+returns-in_err-first c =
     let a = c.args in
-    let prepared = c.prepared_for-p in
-    let to = ran_of a.given.now (records_of a.records.now) a.text.now a.room (length a.out.now) (length a.t.now) in
-    record { to = to; going = readied a.given.now a.text.now a.room (length a.t.now) prepared.result prepared.new.out prepared.new.t prepared.new.index prepared.ensures (length a.out.now) (length prepared.new.t) (omega (arith, prepared.auto)) (omega (arith, prepared.auto)) (records_of a.records.now) }
+    let b = c.begun.new in
+    let p = err_from_is_err_and c.from_residual.result c.from_residual.ensures.1 in
+    rw (p.1, p.2) (readied_not a.given.now a.text.now a.room (length a.t.now) _ b.counts b.out b.t b.index c.in_err-first.ensures.0 (omega (arith, c.begun.auto)) (records_of a.records.now), c.in_err-first.ensures.1)
 
-pub settle_for-requires : goal.settle_for-requires
-settle_for-requires c =
+pub steps-requires : goal.steps-requires
+steps-requires c =
     let a = c.args in
-    let through = c.through-q in
-    let prepared = c.prepared_for-p in
-    let to = ran_of a.given.now (records_of a.records.now) a.text.now a.room (length a.out.now) (length a.t.now) in
-    let going = readied a.given.now a.text.now a.room (length a.t.now) prepared.result prepared.new.out prepared.new.t prepared.new.index prepared.ensures (length a.out.now) (length prepared.new.t) (omega (arith, prepared.auto)) (omega (arith, prepared.auto)) (records_of a.records.now) in
-    through_bounded to a.records.now a.text.now a.room (length prepared.new.t) through.result through.new.out through.new.t through.new.index (through.ensures to going)
+    let b = c.begun.new in
+    record { to = _; under = (readied a.given.now a.text.now a.room (length a.t.now) (Ok c.in_ok-first.first) b.counts b.out b.t b.index c.in_ok-first.ensures.0 {size = length a.out.now} (omega (arith, c.begun.auto)) (records_of a.records.now)).1 }
 
-pub shape_of-out : goal.shape_of-out
-shape_of-out c = omega arith
+pub returns-in_err-last : goal.returns-in_err-last
+returns-in_err-last c =
+    let a = c.args in
+    let b = c.begun.new in
+    let g = readied a.given.now a.text.now a.room (length a.t.now) (Ok c.in_ok-first.first) b.counts b.out b.t b.index c.in_ok-first.ensures.0 {size = length a.out.now} (omega (arith, c.begun.auto)) (records_of a.records.now) in
+    let d = c.steps.new in
+    let p = err_from_is_err_and c.from_residual-in_err-last.result c.from_residual-in_err-last.ensures.1 in
+    rw (p.1, p.2) (remains_in (Err c.in_err-last.field-0.0) d.counts d.out d.t (c.in_err-last.ensures.0 _ g.1) (omega (arith, c.begun.auto, c.steps.auto)) g.0, c.in_err-last.ensures.1)
 
-pub shape_of-t : goal.shape_of-t
-shape_of-t c = omega arith
+pub ended-requires : goal.ended-requires
+ended-requires c =
+    let a = c.args in
+    let b = c.begun.new in
+    let g = readied a.given.now a.text.now a.room (length a.t.now) (Ok c.in_ok-first.first) b.counts b.out b.t b.index c.in_ok-first.ensures.0 {size = length a.out.now} (omega (arith, c.begun.auto)) (records_of a.records.now) in
+    let u = (c.in_ok-last.ensures.0 _ g.1).1 in
+    let n = records_length a.records.now in
+    let m = underway_number u in
+    (u.ready.at, omega arith)
 
 pub returns : goal.returns
 returns c =
     let a = c.args in
-    let through = c.through-q in
-    let prepared = c.prepared_for-p in
-    let to = ran_of a.given.now (records_of a.records.now) a.text.now a.room (length a.out.now) (length a.t.now) in
-    let going = readied a.given.now a.text.now a.room (length a.t.now) prepared.result prepared.new.out prepared.new.t prepared.new.index prepared.ensures (length a.out.now) (length prepared.new.t) (omega (arith, prepared.auto)) (omega (arith, prepared.auto)) (records_of a.records.now) in
-    through_settled to a.records.now a.text.now a.room (length prepared.new.t) through.result through.new.out through.new.t through.new.index (through.ensures to going) (omega (arith, through.auto)) c.settle_for.result c.settle_for.new.out c.settle_for.new.t c.settle_for.ensures
+    let b = c.begun.new in
+    let g = readied a.given.now a.text.now a.room (length a.t.now) (Ok c.in_ok-first.first) b.counts b.out b.t b.index c.in_ok-first.ensures.0 {size = length a.out.now} (omega (arith, c.begun.auto)) (records_of a.records.now) in
+    let u = (c.in_ok-last.ensures.0 _ g.1).1 in
+    let n = records_length a.records.now in
+    let d = c.steps.new in
+    (remains_in c.ended.result d.counts c.ended.new.out d.t (run_finished u (omega arith) c.ended.result c.ended.new.out (rw (← n) at c.ended.ensures.0)) (omega (arith, c.begun.auto, c.steps.auto)) g.0, c.ended.ensures.1)

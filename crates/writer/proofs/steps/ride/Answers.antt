@@ -7,9 +7,6 @@ use Rattle.writer.proofs.steps.ride.Goals as goal
 pub returns-then-st-ne-CONTENT : goal.returns-then-st-ne-CONTENT
 returns-then-st-ne-CONTENT c = rides_not c.args.records.now c.args.memory.now c.args.room c.args.i c.args.st c.args.out.now
 
-pub returns-then-st-eq0 : goal.returns-then-st-eq0
-returns-then-st-eq0 c = rides_not c.args.records.now c.args.memory.now c.args.room c.args.i c.args.st c.args.out.now
-
 pub run-requires : goal.run-requires
 run-requires c = record { at = omega arith; level = omega arith; filed = c.requires.2 }
 

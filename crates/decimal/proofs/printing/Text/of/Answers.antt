@@ -4,4 +4,4 @@ use Rattle.decimal.proofs.TextsWritten.{text_of}
 use Rattle.decimal.proofs.printing.Text.of.Goals as goal
 
 pub returns : goal.returns
-returns c = (text_of c.args.z _ _ c.ranges.z c.magnitude-n.ensures c.size.ensures.0, c.size.ensures.1)
+returns c = (text_of c.args.z _ _ c.ranges.z c.unsigned_abs-n.ensures.value c.size.ensures.0, c.size.ensures.1)

@@ -4,14 +4,11 @@ use native.Mathlib.Omega.{arith}
 use Rattle.writer.proofs.LaneLaws.{passed_end, passed_start}
 use Rattle.writer.proofs.lane.Lane.pass.Goals as goal
 
-pub closed-requires : goal.closed-requires
-closed-requires c = (omega arith, omega arith, omega arith)
-
-pub returns-then-k-eq-AN_END : goal.returns-then-k-eq-AN_END
-returns-then-k-eq-AN_END c = passed_end c.args.w.now c.args.k c.requires (omega arith) c.closed.ensures
+pub returns-in-End : goal.returns-in-End
+returns-in-End c = rw c.in-End.is (passed_end c.args.w.now 0 (rw c.in-End.is at c.requires) c.closed.ensures)
 
 pub opened-requires : goal.opened-requires
-opened-requires c = let n = c.requires.name (λ q. omega arith) in (omega arith, omega arith, omega arith, omega arith, omega arith)
+opened-requires c = let m = rw c.in-Start.is at c.requires in let n = m.name in (omega arith, m.level, m.there, n.0, n.1)
 
-pub returns : goal.returns
-returns c = passed_start c.args.w.now c.args.k c.requires (λ q. omega arith) c.opened.ensures
+pub returns-in-Start : goal.returns-in-Start
+returns-in-Start c = rw c.in-Start.is (passed_start c.args.w.now _ (rw c.in-Start.is at c.requires) c.opened.ensures)

@@ -1,0 +1,15 @@
+-- `long_at` meets its contract: the library reads the integer that the octets are.
+-- Assumes nothing.
+use Rattle.std.proofs.Common.{◌∙◌, arith}
+use mir.Syntax.{w64}
+use mir.ValLaws.{to_z-of_z}
+use Rattle.format.specs.Integers.{half}
+use Rattle.decimal.specs.Reading.{number}
+use Rattle.decimal.proofs.Bytes.{integer_is}
+use Rattle.decimal.proofs.long_at.Goals as goal
+
+pub returns : goal.returns
+unfolding number half
+returns c =
+    let r = c.from_be_bytes in
+    to_z-of_z w64 r.result (record { sfits = r.type_inv }) ∙ r.ensures ∙ integer_is 8 w64 (omega arith) (omega arith) c.args.s.now c.args.at _ c.requires (omega arith)

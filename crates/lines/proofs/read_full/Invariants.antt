@@ -1,0 +1,10 @@
+-- `read_full` is safe and ends: as many octets came as it says, and what is left of the room falls.
+-- Assumes nothing.
+use Rattle.std.proofs.Common.{◌≡◌, ◌-◌, ◌≤◌, length}
+use Rattle.lines.proofs.read_full.Given as goal
+
+abbrev pub invariant-loop-done : goal.invariant-loop-done
+invariant-loop-done g l = (l.done ≤ length l.s) × (length l.s ≡ length l.initial.s)
+
+abbrev pub decreases-loop-done : goal.decreases-loop-done
+decreases-loop-done g l = length l.s - l.done
