@@ -1,22 +1,35 @@
 -- The octets of an integer and the integer of octets: each gives the other back, on the integers that w octets hold.
 -- Assumes nothing.
-use mathlib.Core.Path.{◌≡◌, sym, ap, ◌∙◌}
-use Prim.Native.Nat.{ℕ, zero, suc, ◌+◌, ◌-◌, ◌^◌, ◌≤◌, ◌<◌}
+use mathlib.Core.Path.{◌≡◌, refl, sym, ap, ◌∙◌}
+use Prim.Native.Nat.{ℕ, zero, suc, ◌+◌, ◌-◌, ◌*◌, ◌/◌, ◌%◌, ◌^◌, ◌≤◌, ◌<◌}
 use native.Mathlib.Nat.{pow-suc}
 use native.Mathlib.Omega.{arith}
 use borrow.Author.Tests.{lt-ltb, le-ltb}
 use lib.Dec.{lit<}
 use lib.IntN.{ℤ, pos, negsuc}
 use lib.ListN.{length}
+use lib.Pow.{pow-add}
 use Rattle.format.specs.Octets.{Octets}
-use Rattle.format.specs.Integers.{half, Held, unsigned, octets_of}
+use Rattle.format.specs.Numbers.{octets}
+use Rattle.format.specs.Integers.{figures, half, Held, unsigned, octets_of}
 use Rattle.fields.proofs.Laws.{case}
+use Rattle.fields.proofs.Puts.{pow8}
 use Rattle.decimal.specs.Reading.{number, signed, integer_of}
 use Rattle.decimal.proofs.Figures.{Figures, figures-length, figures_are, number-figures, number_less, figures-number}
 
 pub halves : (m : ℕ) → half (suc m) + half (suc m) ≡ 256 ^ suc m
 unfolding half
 halves m = let e = pow-suc 256 m in omega arith
+
+-- in powers of two: the integers from -2 ^ (8 w - 1) to 2 ^ (8 w - 1) - 1
+pub half_power : (w : ℕ) → 0 < w → half w ≡ 2 ^ (8 * w - 1)
+unfolding half
+half_power zero h = absurd (omega arith)
+half_power (suc m) h =
+    let e : 8 * suc m - 1 ≡ 8 * m + 7 = omega arith in
+    let p = pow8 m in
+    let q = pow-add 2 (8 * m) 7 in
+    rw (e, pow-suc 256 m) (omega arith)
 
 -- an integer that w octets hold: they are octets at all, and the half is half
 held_halves : (w : ℕ) (z : ℤ) → Held w z → half w + half w ≡ 256 ^ w
@@ -62,6 +75,16 @@ octets-length w z = figures-length 256 0 w (unsigned w z)
 pub octets_are : (w : ℕ) (z : ℤ) → Figures 256 0 (octets_of w z)
 unfolding octets_of
 octets_are w z = figures_are 256 0 (lit< tt) w (unsigned w z)
+
+-- as the output has them
+octets_are_figures : (m v : ℕ) → octets m v ≡ figures 256 0 m v
+unfolding octets figures
+octets_are_figures zero v = refl
+octets_are_figures (suc m) v = let e : 0 + v / 256 ^ m % 256 ≡ v / 256 ^ m % 256 = omega arith in rw (e, octets_are_figures m v)
+
+pub octets_by : (w : ℕ) (z : ℤ) (v : ℕ) → v ≡ unsigned w z → octets w v ≡ octets_of w z
+unfolding octets_of
+octets_by w z v e = octets_are_figures w v ∙ ap (figures 256 0 w) e
 
 -- ---- the two laws
 

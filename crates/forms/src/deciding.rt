@@ -6,24 +6,42 @@ ghost use Rattle.fields.specs.Utf8.{fits, is_text};
 ghost use Rattle.forms.specs.Reading.{size, rows16, is_text16, are_places, said};
 ghost use Rattle.forms.specs.Streams.{part, Sound};
 
-use crate::unit;
 use format::StringForm;
 
-// How many octets the first character has, 0 where none is.
+// How many octets the first character has, 0 where none is. The first octet is asked, and the second where that does not
+// decide: one match on both costs half as much again on long strings.
 fn size16(s: &[u8]) -> usize
     ensures { result ≡ size rows16 s.now }
 {
     if s.len() < 2 {
         return 0;
     }
-    match unit(s, 0) {
-        0x09 | 0x0A | 0x0D | 0x20..=0xD7FF | 0xE000..=0xFFFD => 2,
-        0xD800..=0xDBFF if s.len() >= 4 => match unit(s, 2) {
-            0xDC00..=0xDFFF => 4,
+    let high = s[0];
+    let low = s[1];
+    if high == 0 {
+        return match low {
+            0x09 | 0x0A | 0x0D => 2,
+            0x20..=0xFF => 2,
             _ => 0,
-        },
-        _ => 0,
+        };
     }
+    if high < 0xD8 {
+        return 2;
+    }
+    if high < 0xDC {
+        return if s.len() >= 4 && 0xDC <= s[2] && s[2] < 0xE0 {
+            4
+        } else {
+            0
+        };
+    }
+    if high < 0xE0 {
+        return 0;
+    }
+    if high < 0xFF || low < 0xFE {
+        return 2;
+    }
+    0
 }
 
 // Characters in UTF-16.

@@ -28,16 +28,16 @@ pub use packing::{alphabet_for, may_begin, put_packed};
 // `count` lowest digits of an integer's number. It gives the string octet by octet in UTF-8.
 #[derive(Clone, Copy)]
 pub struct Said<'a> {
-    s: &'a [u8],
-    form: StringForm,
-    at: usize,
-    to: usize,
-    left: u32,
-    a: u8,
-    b: u8,
-    c: u8,
-    number: u64,
-    count: u32,
+    pub s: &'a [u8],
+    pub form: StringForm,
+    pub at: usize,
+    pub to: usize,
+    pub left: u32,
+    pub a: u8,
+    pub b: u8,
+    pub c: u8,
+    pub number: u64,
+    pub count: u32,
 }
 
 // Sixteen bits, the higher octet first.

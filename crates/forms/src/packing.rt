@@ -69,7 +69,8 @@ pub fn may_begin(o: u8) -> bool
     o == 0x65
 }
 
-// The place of a character of an alphabet.
+// The place of a character of an alphabet. It is put in line, since packing asks it for each character.
+#[inline(always)]
 fn place_in(form: StringForm, o: u8) -> u8
     requires { is_letter (alphabet form) o ≡ true }
     ensures { (result ≡ place_in (alphabet form) o) × (result < 15) }
@@ -151,6 +152,10 @@ fn pack_octets(
     requires { (at ≤ 0x1_0000_0000) × (from ≤ to) × (to ≤ length s.now) × (length s.now ≤ 0x1_0000_0000) × (all_letters (alphabet letters) (part s.now from to) ≡ true) }
     ensures { Puts out.old at result out.new (packed_by (alphabet letters) (part s.now from to)) }
 {
+    // An output that ends before it, as in measuring, gets nothing: it is counted alone.
+    if out.len() <= at {
+        return at + (to - from + 1) / 2;
+    }
     let mut i = at;
     for pair in s[from..to].chunks(2) {
         let high = 16 * place_in(letters, pair[0]);

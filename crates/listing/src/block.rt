@@ -22,6 +22,30 @@ impl<'a, P: Print> Block<'a, P> {
             used: 0,
         }
     }
+
+    // One octet, as `write` takes it.
+    pub fn push(&mut self, octet: u8) -> io::Result<()> {
+        if self.used == SIZE {
+            self.flush()?;
+        }
+        if self.used < SIZE {
+            self.octets[self.used] = octet;
+            self.used += 1;
+        }
+        Ok(())
+    }
+
+    // Two octets, one after the other.
+    pub fn push_both(&mut self, first: u8, second: u8) -> io::Result<()> {
+        if self.used + 2 <= SIZE {
+            self.octets[self.used] = first;
+            self.octets[self.used + 1] = second;
+            self.used += 2;
+            return Ok(());
+        }
+        self.push(first)?;
+        self.push(second)
+    }
 }
 
 impl<P: Print> Write for Block<'_, P> {

@@ -13,17 +13,23 @@ use std::env::{Env, FillError};
 use std::io::{self, Write};
 use tables::Counts;
 
-fn put_octets(out: &mut impl Write, octets: &[u8]) -> io::Result<()> {
+// An octet as two hex digits. Most of a listing is these, and `write!` takes ten times as long for them.
+fn put_hex<P: Print>(out: &mut Block<'_, P>, o: u8) -> io::Result<()> {
+    let digits = b"0123456789abcdef";
+    out.push_both(digits[usize::from(o / 16)], digits[usize::from(o % 16)])
+}
+
+fn put_octets<P: Print>(out: &mut Block<'_, P>, octets: &[u8]) -> io::Result<()> {
     for o in octets {
-        write!(out, "{o:02x}")?;
+        put_hex(out, *o)?;
     }
     Ok(())
 }
 
 // A stretch by its octets in UTF-8. The reader hands out none that reaches beyond s or is no text in its form; the test
 // stands in for a contract that says so.
-fn put_stretch(
-    out: &mut impl Write,
+fn put_stretch<P: Print>(
+    out: &mut Block<'_, P>,
     s: &[u8],
     form: StringForm,
     place: u32,
@@ -33,18 +39,19 @@ fn put_stretch(
     let to = from + size as usize;
     if to <= s.len() && forms::is_text(s, form, from, to) {
         for o in Said::over(s, form, from, to) {
-            write!(out, "{o:02x}")?;
+            put_hex(out, o)?;
         }
     }
     Ok(())
 }
 
 // One string of an event: "-" for absent, else "=" and its octets in UTF-8.
-fn put_string(out: &mut impl Write, s: &[u8], x: EventString) -> io::Result<()> {
+fn put_string<P: Print>(out: &mut Block<'_, P>, s: &[u8], x: EventString) -> io::Result<()> {
+    out.push(b' ')?;
     if x.is_absent() {
-        return out.write_all(b" -");
+        return out.push(b'-');
     }
-    out.write_all(b" =")?;
+    out.push(b'=')?;
     match x {
         EventString::Absent | EventString::Empty => Ok(()),
         EventString::XmlPrefix => put_octets(out, b"xml"),
@@ -53,18 +60,18 @@ fn put_string(out: &mut impl Write, s: &[u8], x: EventString) -> io::Result<()> 
     }
 }
 
-fn put_event(out: &mut impl Write, s: &[u8], e: Event) -> io::Result<()> {
-    write!(out, "{}", lines::letter(e.kind))?;
+fn put_event<P: Print>(out: &mut Block<'_, P>, s: &[u8], e: Event) -> io::Result<()> {
+    out.push(lines::letter(e.kind) as u8)?;
     let strings = [e.prefix, e.namespace, e.name, e.value];
     for x in &strings[lines::strings_of(e.kind)] {
         put_string(out, s, *x)?;
     }
-    out.write_all(b"\n")
+    out.push(b'\n')
 }
 
 // The lines of the first n records, and their number.
-fn put_events(
-    out: &mut impl Write,
+fn put_events<P: Print>(
+    out: &mut Block<'_, P>,
     s: &[u8],
     records: &[u32],
     n: usize,

@@ -31,7 +31,7 @@ use Rattle.read_names.specs.Strings as S
 use Rattle.read_names.specs.Strings.{IdRead, StringRead, got, refused, then, id_at, spelled_at}
 use Rattle.read_names.specs.Names.{namespace_bit}
 use Rattle.read_names.specs.Promises.{Ranged, Left, seen_id, IdLeft, id_seen, seen_field, FieldLeft, string_seen, ReadsId}
-use Rattle.read_names.specs.StringContracts.{held_of}
+use Rattle.read_names.specs.StringContracts.{held_of, held_by}
 use Rattle.read_names.specs.NameContracts.{new_name, seen_number}
 use Rattle.read_names.proofs.Places.{Within}
 use Rattle.read_head.specs.Head.{Passed, passing, part_at, identifying_at, another_at, surrogate_at, entry_at}
@@ -137,14 +137,11 @@ module _ (s c : List ℕ) (t k : ℕ) (there : Bool) where
       unfolding part_at
       part_padded h = rw (is, ne_eqb (get_or s k 0 / 16 % 8) 7 coded, le-ltb (get_or s k 0) 0x80 h) (λ w. refl, tt)
 
-      pub part_refused : get_or s k 0 < 0x80 → (f : Fault) → Err f ≡ field_at c25 top 2 s k → ReadsPart s c t k there (Err f)
-      unfolding part_at
-      part_refused h f read = rw (is, ne_eqb (get_or s k 0 / 16 % 8) 7 coded, lt-ltb (get_or s k 0) 0x80 h, ← read) (λ w. refl, tt)
-
-      pub part-read : get_or s k 0 < 0x80 → (r : Read ℕ) → Ok r ≡ field_at c25 top 2 s k → (a : Result (Read ℕ) Fault) → a ≡ held_of (count_of (unlisted c) t) k r
+      pub part-read : get_or s k 0 < 0x80 → (m : Result (Read ℕ) Fault) → m ≡ field_at c25 top 2 s k → (a : Result (Read ℕ) Fault) → a ≡ held_by (count_of (unlisted c) t) k m
           → ReadsPart s c t k there a
       unfolding part_at held_of
-      part-read h r read a e =
+      part-read h (Err f) read a e = rw (is, ne_eqb (get_or s k 0 / 16 % 8) 7 coded, lt-ltb (get_or s k 0) 0x80 h, ← read, e) (λ w. refl, tt)
+      part-read h (Ok r) read a e =
           let g = field_got top s k c25 2 (sym read) in
           rw (is, ne_eqb (get_or s k 0 / 16 % 8) 7 coded, lt-ltb (get_or s k 0) 0x80 h, ← read, e)
           (case (count_of (unlisted c) t) r.value

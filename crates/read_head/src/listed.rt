@@ -53,7 +53,7 @@ fn another(
         let read = read_names::in_form(s, t, counts, table, at, 5, true)?;
         return Ok(read.next);
     }
-    let length = Cursor { at }.length(s, 5)?;
+    let length = Cursor { at }.length(s, 5);
     let read = read_names::formed(s, t, counts, table, at, StringForm::Utf8, length, true)?;
     Ok(read.next)
 }
@@ -74,7 +74,7 @@ fn part(s: &[u8], counts: &[u32], table: usize, at: usize, there: bool) -> Readi
     if 0x80 <= o {
         return Err(Refusal::Padding.at(at));
     }
-    read_names::held(counts, table, at, Cursor { at }.number_at_bit_2(s)?)
+    read_names::held(counts, table, at, Cursor { at }.number_at_bit_2(s))
 }
 
 // A name whose parts end before `next`: its triple is new, and is added. It does not share `triple` of read_names: with

@@ -9,7 +9,7 @@ use native.Mathlib.Numerals.{add-one}
 use borrow.Author.Tests.{lt-ltb, le-ltb, leb-true}
 use lib.Dec.{ltb, leb, eqb}
 use lib.ListN.{length, get_or}
-use Rattle.std.specs.Prelude.{Result, Ok, Err}
+use Rattle.std.specs.Prelude.{Result}
 use Rattle.format.specs.declared.refusals.Fault.{Fault}
 use Rattle.fields.specs.declared.Read.{Read}
 use Rattle.fields.specs.Fields.{bits_of, value_from}
@@ -19,27 +19,23 @@ use Rattle.read_names.specs.StringContracts.{LengthRead}
 use Rattle.read_names.proofs.StringLaws.{tests}
 
 -- ---- what stands behind the number's octets: a length n, with `more` octets
-abbrev LengthIn : List ℕ → Result (Read ℕ) Fault → Type 0
-LengthIn s (Ok r) = LengthRead s r
-LengthIn s (Err f) = Unit {0}
-
 module _ (bit f : ℕ) (s : List ℕ) (k more n : ℕ) (clean : Bool) where
-  behind-read : 1 ≤ n → LengthIn s (method_behind bit f s k more n clean)
+  behind-read : 1 ≤ n → LengthRead s (method_behind bit f s k more n clean)
   unfolding method_behind
   behind-read h =
-      tests (LengthIn s) (leb (k + 2 + more + n) (length s)) _ _
+      tests (LengthRead s) (leb (k + 2 + more + n) (length s)) _ _
       (λ e. let l : k + 2 + more + n ≤ length s = leb-true _ _ e in
-      tests (LengthIn s) (is_read f (method_at bit s k)) _ _ (λ _. tests (LengthIn s) clean _ _ (λ _. (h, omega arith)) (λ _. tt)) (λ _. tt))
+      tests (LengthRead s) (is_read f (method_at bit s k)) _ _ (λ _. tests (LengthRead s) clean _ _ (λ _. (h, omega arith)) (λ _. tt)) (λ _. tt))
       (λ _. tt)
 
-method_in : (bit f : ℕ) (s : List ℕ) (k b : ℕ) → LengthIn s (method_length bit f s k b)
+method_in : (bit f : ℕ) (s : List ℕ) (k b : ℕ) → LengthRead s (method_length bit f s k b)
 unfolding method_length
 method_in bit f s k b =
-    tests (LengthIn s) (ltb b (2 ^ (8 - bit))) _ _ (λ _. behind-read bit f s k 0 _ _ (omega arith))
-    (λ _. tests (LengthIn s) (ltb b (3 * 2 ^ (7 - bit))) _ _ (λ _. behind-read bit f s k 1 _ _ (omega arith)) (λ _. behind-read bit f s k 4 _ _ (omega arith)))
+    tests (LengthRead s) (ltb b (2 ^ (8 - bit))) _ _ (λ _. behind-read bit f s k 0 _ _ (omega arith))
+    (λ _. tests (LengthRead s) (ltb b (3 * 2 ^ (7 - bit))) _ _ (λ _. behind-read bit f s k 1 _ _ (omega arith)) (λ _. behind-read bit f s k 4 _ _ (omega arith)))
 
-pub method_read : (bit f : ℕ) (s : List ℕ) (k b : ℕ) (r : Read ℕ) → Ok r ≡ method_length bit f s k b → LengthRead s r
-method_read bit f s k b r e = rw (← e) at (method_in bit f s k b)
+pub method_read : (bit f : ℕ) (s : List ℕ) (k b : ℕ) (m : Result (Read ℕ) Fault) → m ≡ method_length bit f s k b → LengthRead s m
+method_read bit f s k b m e = rw (← e) at (method_in bit f s k b)
 
 -- ---- the bits of one octet
 module _ (bit : ℕ) (from : 5 ≤ bit) (to : bit ≤ 7) where

@@ -47,12 +47,12 @@ use Rattle.read_names.specs.Strings as S
 use Rattle.read_names.specs.Strings.{IdRead, OptionalRead, id_at, optional_at, spelling}
 use Rattle.read_names.specs.Names.{NameRead, prefix_bit, namespace_bit, name_bit, part_of, name_of, no_triple, parts_at, numbered_at, name_at, declared_at}
 use Rattle.read_names.specs.Promises.{Ranged, searched, Tidy, Grown, Left, event_string_at, event_strings_at, name_strings_at, Seen, IdLeft, Positive, id_seen, optional_seen, seen_name, name_seen, declared_seen}
-use Rattle.read_names.specs.StringContracts.{held_of}
+use Rattle.read_names.specs.StringContracts.{held_of, held_by}
 use Rattle.read_names.specs.NameContracts.{new_name, seen_number, NewRow, Addable, AddsName}
 use Rattle.index.proofs.Counted.{count_at, one_more_lem, one_more-words}
 use Rattle.index.proofs.Ordered.{ordered_name}
 use Rattle.read_names.proofs.Grown.{searched_name, grown_none, grown_on, grown-stored, string_stays, InRange, name_at as name_in_table, name_ranged}
-use Rattle.read_names.proofs.StringLaws.{tests, ranged_kept, held_by}
+use Rattle.read_names.proofs.StringLaws.{tests, ranged_kept}
 
 -- ---- a table's layout
 module _ (t : ℕ) (e : t ≡ 8) where

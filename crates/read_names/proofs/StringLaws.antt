@@ -45,7 +45,7 @@ use Rattle.events.specs.Records.{event_string}
 use Rattle.read_names.specs.Strings as S
 use Rattle.read_names.specs.Strings.{Got, got, refused, then, number, spelling, IdRead, StringRead, id_at, optional_at, number_bit, method_at, form_by, method_length, formed_at, spelled_at, literal_at, value_at}
 use Rattle.read_names.specs.Promises.{Ranged, searched, Tidy, Left, event_string_at, Seen, seen_id, IdLeft, Positive, seen_field, FieldLeft, id_seen, optional_seen, string_seen}
-use Rattle.read_names.specs.StringContracts.{LengthRead, judged_of, held_of, said_of, added_of, added_counts, added_words}
+use Rattle.read_names.specs.StringContracts.{LengthRead, judged_of, held_of, held_by, said_of, added_of, added_counts, added_words}
 use Rattle.index.proofs.Counted.{count_at, one_more-words}
 use Rattle.index.proofs.Ordered.{string_more, ordered_string}
 use Rattle.read_names.proofs.Grown.{searched_string, searched_not, grown_none, grown-stored}
@@ -61,8 +61,13 @@ handed_on (Ok x) f h = absurd h.1
 handed_on (Err y) f h = ap Err h.1
 
 -- ---- a spelled string's octets: r is the length that was read at k
-pub length-read : (s : List ℕ) (k bit : ℕ) (r : Read ℕ) → Ok r ≡ field_at (lengths bit) no_top bit s k → LengthRead s r
+pub length-read : (s : List ℕ) (k bit : ℕ) (r : Read ℕ) → Ok r ≡ field_at (lengths bit) no_top bit s k → LengthRead s (Ok r)
 length-read s k bit r e = let g = field_got no_top s k (lengths bit) bit (sym e) in (g.0, g.3)
+
+-- or refused
+pub length_given : (s : List ℕ) (k bit : ℕ) (m : Result (Read ℕ) Fault) → m ≡ field_at (lengths bit) no_top bit s k → LengthRead s m
+length_given s k bit (Ok r) e = length-read s k bit r e
+length_given s k bit (Err f) e = tt
 
 module _ (form : StringForm) (s : List ℕ) (k : ℕ) (r : Read ℕ) where
   pub judged_text : r.next + r.value ≤ length s → is_text (octets_of s (stretch form r.next r.value)) ≡ true → Ok tt ≡ judged_of form s k r
@@ -174,10 +179,10 @@ module _ (w : List ℕ) (t count k : ℕ) (r : Read ℕ) where
   unfolding said_of
   said_entry x l q = rw (le-leb _ _ l, q)
 
--- a refusal of the number is handed on
-abbrev pub held_by : (count k : ℕ) → Result (Read ℕ) Fault → Result (Read ℕ) Fault
-held_by count k (Ok r) = held_of count k r
-held_by count k (Err f) = Err f
+-- a number that was read is not 0, or its refusal is handed on
+pub held_from_one : (s : List ℕ) (count k bit : ℕ) (fs : List Form) (m : Result (Read ℕ) Fault) → m ≡ field_at fs top bit s k → Positive (held_by count k m)
+held_from_one s count k bit fs (Ok r) e = held_positive count k r (field_got top s k fs bit (sym e)).0
+held_from_one s count k bit fs (Err f) e = tt
 
 abbrev pub said_by : List ℕ → (t count k : ℕ) → Result (Read ℕ) Fault → Result (Read EventString) Fault
 said_by w t count k (Ok r) = said_of w t count k r
@@ -408,7 +413,7 @@ module _ (s c w x : List ℕ) (t k : ℕ) (tidy : Tidy s c w x) (small : t < 8) 
   length_refused form add f = (refl, rooms)
 
   -- or was read, r
-  module _ (form : StringForm) (add : Bool) (r : Read ℕ) (read : LengthRead s r) where
+  module _ (form : StringForm) (add : Bool) (r : Read ℕ) (read : LengthRead s (Ok r)) where
     abbrev as_string : Bool → S.Got StringRead
     as_string add =
         pick (not add || ltb (length table) link.entries)

@@ -21,8 +21,9 @@ use Rattle.read_names.specs.Strings.{formed_at, spelled_at}
 use Rattle.read_names.specs.Promises.{Tidy, seen_field, string_seen, FieldLeft}
 
 -- A length that was read is not 0, and behind it is a place of the document, or its end.
-abbrev pub LengthRead : Octets → Read ℕ → Type 0
-LengthRead s r = (1 ≤ r.value) × (r.next ≤ length s)
+abbrev pub LengthRead : Octets → Result (Read ℕ) Fault → Type 0
+LengthRead s (Ok r) = (1 ≤ r.value) × (r.next ≤ length s)
+LengthRead s (Err f) = Unit {0}
 
 -- The octets of a string whose length was read at k: they are there, or not (2), and are text, or not (9).
 unfoldable pub judged_of : StringForm → Octets → ℕ → Read ℕ → Result (Unit {0}) Fault
@@ -31,6 +32,11 @@ judged_of form s k r = pick (leb (r.next + r.value) (length s)) (pick (is_text (
 -- A number that was read at k, in a table of `count` entries, or one beyond them (10).
 unfoldable pub held_of : (count k : ℕ) → Read ℕ → Result (Read ℕ) Fault
 held_of count k r = pick (leb r.value count) (Ok r) (refused Index k)
+
+-- A refusal of the number is handed on.
+abbrev pub held_by : (count k : ℕ) → Result (Read ℕ) Fault → Result (Read ℕ) Fault
+held_by count k (Ok r) = held_of count k r
+held_by count k (Err f) = Err f
 
 -- The string of the entry that has the number, where there is one.
 unfoldable pub said_of : Words → (table count k : ℕ) → Read ℕ → Result (Read EventString) Fault
@@ -49,11 +55,11 @@ unfoldable pub added_words : (c w : Words) → (table : ℕ) → StringForm → 
 added_words c w table form place size true = pick (ltb (get_or c table 0) per_table) (stored w table (get_or c table 0) place size (form_number form)) w
 added_words c w table form place size false = w
 
--- A string of a table that the reader does not search, spelled: in a form, its length read as r; and by its format, its length from a bit on.
-abbrev pub ReadsFormed : Octets → (c w : Words) (table at : ℕ) → StringForm → Read ℕ → Bool → Result (Read EventString) Fault → (d v : Words) → Type 0
+-- A string of a table that the reader does not search, spelled: in a form, its length read as r, or refused; and by its format, its length from a bit on.
+abbrev pub ReadsFormed : Octets → (c w : Words) (table at : ℕ) → StringForm → Result (Read ℕ) Fault → Bool → Result (Read EventString) Fault → (d v : Words) → Type 0
 ReadsFormed s c w table at form r add a d v =
     (x : Octets) → Tidy s c w x → 5 ≤ table
-    → (seen_field a d v ≡ string_seen (formed_at link form s (table_of table) at add (Ok r) (vocabulary (unlisted c) w))) × FieldLeft s c w a d v x
+    → (seen_field a d v ≡ string_seen (formed_at link form s (table_of table) at add r (vocabulary (unlisted c) w))) × FieldLeft s c w a d v x
 
 abbrev pub ReadsSpelled : Octets → (c w : Words) (table at bit : ℕ) → Bool → Result (Read EventString) Fault → (d v : Words) → Type 0
 ReadsSpelled s c w table at bit add a d v =

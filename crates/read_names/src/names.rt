@@ -112,11 +112,20 @@ pub fn in_parts(
     if pn == 2 {
         return Err(Refusal::Structure.at(at));
     }
-    let prefix = optional(2 <= pn, s, t, counts, index, PREFIX, at + 1)?;
+    let first = optional(2 <= pn, s, t, counts, index, PREFIX, at + 1);
+    let Ok(prefix) = first else {
+        return first;
+    };
     let there = bits(b, 8, 8) == 1;
-    let namespace = optional(there, s, t, counts, index, NAMESPACE_NAME, prefix.next)?;
+    let second = optional(there, s, t, counts, index, NAMESPACE_NAME, prefix.next);
+    let Ok(namespace) = second else {
+        return second;
+    };
     let locals = counts[LOCAL_NAME];
-    let local = id(s, t, counts, index, LOCAL_NAME, namespace.next)?;
+    let third = id(s, t, counts, index, LOCAL_NAME, namespace.next);
+    let Ok(local) = third else {
+        return third;
+    };
     let x = Row {
         a: prefix.value,
         b: namespace.value,
@@ -130,7 +139,7 @@ pub fn numbered(s: &[u8], counts: &[u32], table: usize, at: usize) -> Reading<u3
     requires { (length counts.now ≡ 10) × (8 ≤ table) × (table < 10) × (count_of (unlisted counts.now) table ≤ 256) }
     ensures { ReadsNumbered s.now counts.now table at result × Positive result }
 {
-    held(counts, table, at, number(s, at, table)?)
+    held(counts, table, at, number(s, at, table))
 }
 
 // A name whose part of its first octet is b: by number, or in parts.

@@ -1,5 +1,5 @@
 // Strings: C.13, C.14, C.15. Each function reads one string from octet `at` on.
-ghost use Rattle.std.specs.Prelude.{◌≡◌, suc, ◌+◌, ◌-◌, ◌*◌, ◌%◌, ◌^◌, ◌<◌, ◌≤◌, length, get_or};
+ghost use Rattle.std.specs.Prelude.{◌≡◌, suc, ◌+◌, ◌-◌, ◌*◌, ◌%◌, ◌^◌, ◌<◌, ◌≤◌, length, get_or, Ok};
 ghost use Rattle.format.specs.Tables.{link, CONTENT_CHARACTER_CHUNK as CHUNKS};
 ghost use Rattle.format.specs.Strings.{c15};
 ghost use Rattle.tables.specs.Counts.{table_words};
@@ -9,7 +9,7 @@ ghost use Rattle.events.specs.Records.{event_string};
 ghost use Rattle.fields.specs.Fields.{bits_of, value_from};
 ghost use Rattle.read_names.specs.Strings.{method_at, is_read, method_behind, method_length, id_at, optional_at, literal_at, value_at};
 ghost use Rattle.read_names.specs.Promises.{Tidy, ReadsId, ReadsOptional, ReadsField};
-ghost use Rattle.read_names.specs.StringContracts.{LengthRead, judged_of, held_of, said_of, added_of, added_counts, added_words, ReadsFormed, ReadsSpelled};
+ghost use Rattle.read_names.specs.StringContracts.{LengthRead, judged_of, held_by, said_of, added_of, added_counts, added_words, ReadsFormed, ReadsSpelled};
 
 use events::EventString;
 use fields::{Cursor, Read, Reading, bits};
@@ -28,7 +28,7 @@ pub fn octet(s: &[u8], at: usize) -> u8
 // The octets of a string whose length was read at a place: they are there, and are text in its form.
 #[tactic(auto, using(tables::proofs::Search::octets_stretch), unfolding(crate::specs::StringContracts::judged_of))]
 fn judge(s: &[u8], at: usize, form: StringForm, len: Read<u64>) -> Result<(), Fault>
-    requires { LengthRead s.now len }
+    requires { LengthRead s.now (Ok len) }
     ensures { result ≡ judged_of form s.now at len }
 {
     let first = len.next;
@@ -63,12 +63,13 @@ pub fn string_of(t: &[u32], table: usize, i: u32) -> EventString
     EventString::Stretch(form, e.a, e.b)
 }
 
-// A number that was read at a place is that of an entry.
+// A number that was read at a place is that of an entry; its refusal is handed on.
 #[tactic(auto, using(index::proofs::Counted::count_at), unfolding(crate::specs::StringContracts::held_of))]
-pub fn held(counts: &[u32], table: usize, at: usize, number: Read<u64>) -> Reading<u32>
+pub fn held(counts: &[u32], table: usize, at: usize, number: Reading<u64>) -> Reading<u32>
     requires { (length counts.now ≡ 10) × (table < 10) × (count_of (unlisted counts.now) table ≤ 256) }
-    ensures { result ≡ held_of (count_of (unlisted counts.now) table) at number }
+    ensures { result ≡ held_by (count_of (unlisted counts.now) table) at number }
 {
+    let number = number?;
     if (counts[table] as u64) < number.value {
         return Err(Refusal::Index.at(at));
     }
@@ -126,7 +127,7 @@ pub fn id(
     if bits(octet(s, at), 1, 1) == 0 {
         return fresh(s, t, counts, index, table, at);
     }
-    held(counts, table, at, Cursor { at }.number_at_bit_2(s)?)
+    held(counts, table, at, Cursor { at }.number_at_bit_2(s))
 }
 
 // One that is there if its presence bit says so; its number is 0 where it is not.
@@ -161,7 +162,7 @@ fn said(
     requires { (length t.now ≡ table_words) × (length counts.now ≡ 10) × (table < 8) × (count_of (unlisted counts.now) table ≤ 256) × (1 ≤ number.value) }
     ensures { result ≡ said_of t.now table (count_of (unlisted counts.now) table) at number }
 {
-    let number = held(counts, table, at, number)?;
+    let number = held(counts, table, at, Ok(number))?;
     Ok(Read {
         value: string_of(t, table, number.value - 1),
         next: number.next,
@@ -199,7 +200,7 @@ fn added(
     })
 }
 
-// A spelled string in a form, its length read; it is added where its add bit says so.
+// A spelled string in a form, by its length; it is added where its add bit says so. The length's refusal is handed on.
 pub fn formed(
     s: &[u8],
     t: &mut [u32],
@@ -207,12 +208,13 @@ pub fn formed(
     table: usize,
     at: usize,
     form: StringForm,
-    len: Read<u64>,
+    len: Reading<u64>,
     add: bool,
 ) -> Reading<EventString>
     requires { (length t.old ≡ table_words) × (length counts.old ≡ 10) × (length s.now ≤ 16384) × (table < 8) × LengthRead s.now len }
     ensures { ReadsFormed s.now counts.old t.old table at form len add result counts.new t.new }
 {
+    let len = len?;
     judge(s, at, form, len)?;
     let size = len.value as usize;
     added(t, counts, table, at, form, len.next, size, add)
@@ -301,11 +303,11 @@ pub fn in_form(
 {
     let format = bits(octet(s, at), bit - 2, bit - 1);
     if format == 1 {
-        let len = Cursor { at }.length(s, bit)?;
+        let len = Cursor { at }.length(s, bit);
         return formed(s, t, counts, table, at, StringForm::Utf16, len, add);
     }
     let form = StringForm::of(2 + method(s, at, bit));
-    let len = method_length(s, at, bit, format)?;
+    let len = method_length(s, at, bit, format);
     formed(s, t, counts, table, at, form, len, add)
 }
 
@@ -325,7 +327,7 @@ fn spelled(
     if bits(o, 3, 4) != 0 {
         return in_form(s, t, counts, table, at, 5, add);
     }
-    let len = Cursor { at }.length(s, 5)?;
+    let len = Cursor { at }.length(s, 5);
     formed(s, t, counts, table, at, StringForm::Utf8, len, add)
 }
 
@@ -368,7 +370,7 @@ pub fn chunk(s: &[u8], t: &mut [u32], counts: &mut [u32], at: usize) -> Reading<
     if bits(o, 5, 6) != 0 {
         return in_form(s, t, counts, CONTENT_CHARACTER_CHUNK, at, 7, add);
     }
-    let len = Cursor { at }.length(s, 7)?;
+    let len = Cursor { at }.length(s, 7);
     let form = StringForm::Utf8;
     formed(s, t, counts, CONTENT_CHARACTER_CHUNK, at, form, len, add)
 }

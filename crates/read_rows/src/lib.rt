@@ -104,9 +104,8 @@ fn fill(
     Err(Refusal::Truncated.at(st.at / 2))
 }
 
-// A document, into a row and tables that are blank. On a refusal, what was read before it is left in them.
+// A document, into a row and tables. On a refusal, what was read before it is left in them, or what stood there.
 fn into_row(octets: &[u8], events: &mut [Event], tables: &mut [u32]) -> Result<Accepted, Fault>
-    requires { (events.old ≡ replicate (length events.old) blank) × (tables.old ≡ replicate (length tables.old) 0) }
     ensures { left_by result (length events.old) (length tables.old) events.new tables.new ≡ read_of link octets.now (length events.old) (length tables.old) }
 {
     if !reader::sized(octets) {
@@ -115,6 +114,7 @@ fn into_row(octets: &[u8], events: &mut [Event], tables: &mut [u32]) -> Result<A
     if tables.len() != Counts::WORDS {
         return Err(Refusal::Room.at(0));
     }
+    wipe(events, tables);
     let mut words = [0u32; Counts::TABLES];
     let mut index = [0u8; index::SLOTS];
     let body = reader::begun(octets, tables, &mut words, &mut index)?;
@@ -137,7 +137,6 @@ fn wipe(events: &mut [Event], tables: &mut [u32])
 pub fn read(octets: &[u8], events: &mut [Event], tables: &mut [u32]) -> Result<Accepted, Fault>
     ensures { Leaves result events.new tables.new (read_of link octets.now (length events.old) (length tables.old)) }
 {
-    wipe(events, tables);
     let answer = into_row(octets, events, tables);
     if answer.is_err() {
         wipe(events, tables);

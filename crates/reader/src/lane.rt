@@ -1,7 +1,7 @@
 // A quick lane for what most of a document is: elements and chunks by number, spelled chunks, and ends. It takes as
 // many of them as it can, each as a step would, without a step's answer around it. All else is left to the step:
 // other items, strings that are not in utf-8, every fault, the root's end, and an event for which there is no record.
-ghost use Rattle.std.specs.Prelude.{◌≡◌, ◌+◌, ◌-◌, ◌*◌, ◌/◌, ◌<◌, ◌≤◌, length, get_or};
+ghost use Rattle.std.specs.Prelude.{◌≡◌, ◌+◌, ◌-◌, ◌*◌, ◌/◌, ◌<◌, ◌≤◌, length, get_or, slice_range};
 ghost use Rattle.fields.specs.Utf8.{is_text};
 ghost use Rattle.tables.specs.Counts.{table_words};
 ghost use Rattle.tables.specs.Rows.{triple_at};
@@ -162,14 +162,16 @@ fn end(s: &[u8], t: &[u32], counts: &[u32], records: &mut [u32], lane: Lane) -> 
     })
 }
 
-// The octets are text. One or two are looked at here, so that they cost no call.
-fn is_text(octets: &[u8]) -> bool
-    ensures { result ≡ is_text octets.now }
+// The octets from `from` to before `to` are text. One or two are looked at here, so that they cost no call. Others are
+// told where they stand: short ones are loaded with the octets after them, which a part of s does not have.
+fn is_text(s: &[u8], from: usize, to: usize) -> bool
+    requires { (from ≤ to) × (to ≤ length s.now) }
+    ensures { result ≡ is_text (slice_range s.now from to) }
 {
-    match octets {
+    match &s[from..to] {
         [a] if fields::is_plain(*a) => true,
         [a, b] if fields::is_plain(*a) && fields::is_plain(*b) => true,
-        _ => fields::is_text(octets, 0, octets.len()),
+        _ => fields::is_text(s, from, to),
     }
 }
 
@@ -209,7 +211,7 @@ fn spelled(
     let length = Cursor { at: lane.at }.length(s, 7).ok()?;
     let place = length.next;
     let size = length.value as usize;
-    if s.len() - place < size || !is_text(&s[place..place + size]) {
+    if s.len() - place < size || !is_text(s, place, place + size) {
         return None;
     }
     added(t, counts, place as u32, size as u32, bits(o, 4, 4) == 1)?;

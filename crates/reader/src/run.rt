@@ -164,14 +164,13 @@ fn wipe(records: &mut [u32], tables: &mut [u32], counts: &mut [u32])
     tables::clear(counts);
 }
 
-// A document into words that are 0. On a refusal, what was read before it is left in them.
+// A document into words. On a refusal, what was read before it is left in them, or what stood there.
 fn into_words(
     octets: &[u8],
     records: &mut [u32],
     tables: &mut [u32],
     counts: &mut [u32],
 ) -> Result<u32, Fault>
-    requires { (records.old ≡ replicate (length records.old) 0) × (tables.old ≡ replicate (length tables.old) 0) }
     ensures { (left_by result (length records.old) (length tables.old) (length counts.old) records.new tables.new counts.new ≡ read_words link octets.now (length records.old) (length tables.old) (length counts.old)) × Small result }
 {
     if !sized(octets) {
@@ -181,6 +180,7 @@ fn into_words(
         return Err(Refusal::Room.at(0));
     }
     let room = records.len() / RECORD;
+    wipe(records, tables, counts);
     reading(octets, tables, counts, records, room)
 }
 
@@ -191,7 +191,6 @@ fn into_words(
 pub fn read_words(octets: &[u8], records: &mut [u32], tables: &mut [u32], counts: &mut [u32]) -> u64
     ensures { leaving result records.new tables.new counts.new ≡ read_words link octets.now (length records.old) (length tables.old) (length counts.old) }
 {
-    wipe(records, tables, counts);
     match into_words(octets, records, tables, counts) {
         Ok(n) => u64::from(n) << 32,
         Err(f) => {

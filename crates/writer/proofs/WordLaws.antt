@@ -2,7 +2,7 @@
 -- Assumes nothing.
 use mathlib.Core.Path.{◌≡◌, refl, ap, ◌∙◌}
 use mathlib.Core.Bool.{Bool, true, false}
-use mathlib.Core.List.{List}
+use mathlib.Core.List.{List, []}
 use Prim.Native.Nat.{ℕ, ◌+◌, ◌*◌, ◌^◌, ◌≤◌, ◌<◌}
 use native.Mathlib.Omega.{arith}
 use borrow.Author.Tests.{eq-eqb, ne_eqb, le-leb, lt-leb}
@@ -14,12 +14,15 @@ use Rattle.format.specs.Numbers.{pick}
 use Rattle.format.specs.Tables.{link}
 use Rattle.format.specs.Refusals.{refusal_number}
 use Rattle.format.specs.declared.refusals.Fault.{Fault}
+use Rattle.format.specs.declared.refusals.Refusal.TheVariants.{Room}
+use Rattle.tables.specs.Counts.{table_words}
 use Rattle.events.specs.FromWords.{records_of}
 use Rattle.writer.specs.Writing.{Outcome, write_of}
 use Rattle.writer.specs.Words.{WordsLeft, leaving, nothing, in_words, write_words, WordsMeasured, measured, measure_words}
 use Rattle.writer.specs.RanContracts.{reached, ran_of, ran_words}
 use Rattle.writer.specs.RunContracts.{remains, left_by}
 use Rattle.writer.proofs.RanLaws.{ran_whole}
+use Rattle.writer.proofs.StartLaws.{going_room}
 
 -- ---- by cases
 module _ (given records text : List ℕ) (room size t c : ℕ) where
@@ -45,6 +48,9 @@ module _ (given records text : List ℕ) (room size t c : ℕ) where
       words_written (Err f) d out w e =
           let z : f.at * 32 + refusal_number f.refusal ≡ 0 * 2 ^ 32 + (f.at * 32 + refusal_number f.refusal) = omega arith in
           (λ i. nothing (z i) size t (ten i)) ∙ ap in_words e ∙ words_are
+
+      pub words_tables : (t ≡ table_words → ⊥) → nothing 14 size t c ≡ ran_words given records text room size t c
+      words_tables n = words_written (Err (record { refusal = Room; at = 0 })) [] [] [] (going_room given (records_of records) text room size t short n)
 
 -- ---- writing, with room for the output's length, and measuring, which looks at none of the output
 module _ (given records text : List ℕ) where

@@ -94,7 +94,8 @@ fn written(
     ended(last, out, room, records.len() / RECORD)
 }
 
-// The same with any room for the counts.
+// The same with any room, whatever stood there: it is wiped where something is to be written, so that a refusal of the
+// lengths alone wipes it once.
 fn into_words(
     given: &[u32],
     records: &[u32],
@@ -104,7 +105,6 @@ fn into_words(
     tables: &mut [u32],
     counts: &mut [u32],
 ) -> Result<u32, Fault>
-    requires { (out.old ≡ replicate (length out.old) 0) × (tables.old ≡ replicate (length tables.old) 0) }
     ensures { (left_by result (length out.old) (length tables.old) (length counts.old) out.new tables.new counts.new ≡ ran_words given.now records.now text.now room (length out.old) (length tables.old) (length counts.old)) × Small result }
 {
     if fields::OCTETS < text.len() {
@@ -113,6 +113,10 @@ fn into_words(
     if counts.len() != Counts::TABLES {
         return Err(Refusal::Room.at(0));
     }
+    if tables.len() != Counts::WORDS {
+        return Err(Refusal::Room.at(0));
+    }
+    wipe(out, tables);
     written(given, records, text, out, room, tables, counts)
 }
 
@@ -138,7 +142,6 @@ fn in_words(
 ) -> u64
     ensures { leaving result out.new tables.new counts.new ≡ ran_words given.now records.now text.now room (length out.old) (length tables.old) (length counts.old) }
 {
-    wipe(out, tables);
     match into_words(given, records, text, out, room, tables, counts) {
         Ok(octets) => u64::from(octets) << 32,
         Err(f) => {

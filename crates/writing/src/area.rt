@@ -49,7 +49,7 @@ pub fn part(text: &[u8], from: usize, to: usize) -> &[u8] {
 #[derive(Drop)]
 pub struct Room<'a> {
     pub text: &'a mut [u8],
-    pub known: &'a mut [Option<Stretch>],
+    pub known: &'a mut [Option<(u32, Stretch)>],
     pub words: &'a mut [u32],
 }
 
@@ -62,20 +62,21 @@ impl Room<'_> {
     }
 
     // The first string that has the octets of the one at hand, so that the text area of a document's events is no longer
-    // than the document, however often a name comes again. The strings are found by their hash. Where no slot is left,
-    // the strings have more octets than a text area may have, and none matters.
+    // than the document, however often a name comes again. The strings are found by their hash, which stands beside each,
+    // so that of those in a slot only the same one is looked at. Where no slot is left, the strings have more octets than
+    // a text area may have, and none matters.
     pub fn first_same(&mut self, hash: u32, mine: Stretch) -> Stretch {
         let n = self.known.len();
         for k in 0..n {
             let at = (hash as usize).saturating_add(k) % n;
             match self.known[at] {
                 None => {
-                    self.known[at] = Some(mine);
+                    self.known[at] = Some((hash, mine));
                     return mine;
                 }
-                Some(one) => {
+                Some((other, one)) => {
                     let text = &self.text[..];
-                    if one.octets(text) == mine.octets(text) {
+                    if other == hash && one.octets(text) == mine.octets(text) {
                         return one;
                     }
                 }

@@ -1,7 +1,9 @@
 -- `pack_octets` meets its contract: two octets are put in one, after those before, and the last alone where it is left over.
 -- Assumes nothing.
 use borrow.Author.Rules.{rules}
+use native.Mathlib.Omega.{arith}
 use mathlib.Core.Path.{refl, ◌∙◌}
+use Rattle.fields.proofs.Puts.{puts_nothing, puts_fitting}
 use Rattle.std.proofs.lemmas.List.{nil_from_length}
 use Rattle.forms.specs.Packing.{alphabet}
 use Rattle.forms.specs.Streams.{part}
@@ -11,6 +13,13 @@ use Rattle.forms.proofs.Puts.{left_done, left_next, left-place}
 use Rattle.forms.proofs.Packs.{in_pairs, pack_none}
 use Rattle.forms.proofs.packing.pack_octets.Goals as goal
 use Rattle.forms.proofs.packing.pack_octets.Goals.{then-pair-eq2, else-pair-eq2}
+
+pub returns-then-out-at : goal.returns-then-out-at
+returns-then-out-at c =
+    let a = c.args in
+    let n = packed-length (alphabet a.letters) (part a.s.now a.from a.to) in
+    let m = part_length a.s.now a.from a.to c.requires.2 in
+    puts_fitting _ 0 (puts_nothing (omega arith)) (omega arith) (omega arith)
 
 pub loop-pair-init : goal.loop-pair-init
 loop-pair-init c =

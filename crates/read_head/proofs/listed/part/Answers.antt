@@ -1,8 +1,7 @@
 -- `part` meets its contract: each answer is one of the definition.
 -- Assumes nothing.
 use native.Mathlib.Omega.{arith}
-use Rattle.read_names.proofs.StringLaws.{handed_on}
-use Rattle.read_head.proofs.EntryLaws.{part_absent, part_code, part_padded, part_refused, part-read}
+use Rattle.read_head.proofs.EntryLaws.{part_absent, part_code, part_padded, part-read}
 use Rattle.read_head.proofs.listed.part.Goals as goal
 
 pub returns-then-not-there : goal.returns-then-not-there
@@ -16,11 +15,6 @@ pub returns-then-o-ge128 : goal.returns-then-o-ge128
 returns-then-o-ge128 c =
     rw c.at-then-o-ge128.ensures (part_padded c.args.s.now c.args.counts.now c.args.table c.args.at c.args.there c.if-not-there.false (omega arith) (omega arith))
 
-pub returns-in_err-number_at_bit_2 : goal.returns-in_err-number_at_bit_2
-returns-in_err-number_at_bit_2 c =
-    rw (handed_on _ _ c.from_residual.ensures)
-    (part_refused c.args.s.now c.args.counts.now c.args.table c.args.at c.args.there c.if-not-there.false (omega arith) (omega arith) _ c.in_err-number_at_bit_2.ensures)
-
 pub returns : goal.returns
 returns c =
-    part-read c.args.s.now c.args.counts.now c.args.table c.args.at c.args.there c.if-not-there.false (omega arith) (omega arith) _ c.in_ok-number_at_bit_2.ensures _ c.held.ensures
+    part-read c.args.s.now c.args.counts.now c.args.table c.args.at c.args.there c.if-not-there.false (omega arith) (omega arith) _ c.number_at_bit_2.ensures _ c.held.ensures

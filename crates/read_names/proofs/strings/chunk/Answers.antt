@@ -2,10 +2,9 @@
 -- Assumes nothing.
 use mathlib.Core.Path.{refl, sym}
 use native.Mathlib.Omega.{arith}
-use Rattle.std.specs.Prelude.{Err}
 use Rattle.tables.specs.Rows.{table_of}
 use Rattle.fields.proofs.Bounds.{field_got}
-use Rattle.read_names.proofs.StringLaws.{handed_on, length-read, length_refused, spelled_utf8, chunk_held, chunk_spelled}
+use Rattle.read_names.proofs.StringLaws.{handed_on, length_given, spelled_utf8, chunk_held, chunk_spelled}
 use Rattle.read_names.proofs.strings.chunk.Goals as goal
 
 pub returns-in_err-number : goal.returns-in_err-number
@@ -29,20 +28,12 @@ unfolding table_of
 returns-then-bits-ne0 c =
     λ x tidy. chunk_spelled _ _ _ x 6 _ tidy (omega arith) _ c.octet-o.ensures (rw c.octet-o.ensures c.requires.5) (rw c.octet-o.ensures c.requires.6) _ c.bits.ensures c.if-bits-eq1.false _ c.bits-add.ensures c.in_form.result _ _ (c.in_form.ensures x tidy (omega arith))
 
-pub returns-in_err-len : goal.returns-in_err-len
-unfolding table_of
-returns-in_err-len c =
-    λ x tidy.
-    rw (handed_on _ _ c.from_residual-in_err-len.ensures)
-    (chunk_spelled _ _ _ x 6 _ tidy (omega arith) _ c.octet-o.ensures (rw c.octet-o.ensures c.requires.5) (rw c.octet-o.ensures c.requires.6) _ c.bits.ensures c.if-bits-eq1.false _ c.bits-add.ensures (Err c.in_err-len.field-0.0) c.args.counts.now c.args.t.now
-    (spelled_utf8 _ _ _ x 6 _ tidy (omega arith) 7 _ (omega arith) _ _ c.octet-o.ensures c.bits-2.ensures _ (Err c.in_err-len.field-0.0) c.args.counts.now c.args.t.now c.if-bits-ne0.false c.in_err-len.ensures (length_refused _ _ _ x 6 _ tidy (omega arith) _ _ _)))
-
 pub formed-requires : goal.formed-requires
 formed-requires c =
-    (c.requires.0, c.requires.1, c.requires.2, omega arith, length-read _ _ 7 _ c.in_ok-len.ensures)
+    (c.requires.0, c.requires.1, c.requires.2, omega arith, length_given _ _ 7 _ c.length-len.ensures)
 
 pub returns : goal.returns
 unfolding table_of
 returns c =
     λ x tidy. chunk_spelled _ _ _ x 6 _ tidy (omega arith) _ c.octet-o.ensures (rw c.octet-o.ensures c.requires.5) (rw c.octet-o.ensures c.requires.6) _ c.bits.ensures c.if-bits-eq1.false _ c.bits-add.ensures c.formed.result _ _
-    (spelled_utf8 _ _ _ x 6 _ tidy (omega arith) 7 _ (omega arith) _ _ c.octet-o.ensures c.bits-2.ensures _ c.formed.result _ _ c.if-bits-ne0.false c.in_ok-len.ensures (c.formed.ensures x tidy (omega arith)))
+    (spelled_utf8 _ _ _ x 6 _ tidy (omega arith) 7 _ (omega arith) _ _ c.octet-o.ensures c.bits-2.ensures _ c.formed.result _ _ c.if-bits-ne0.false c.length-len.ensures (c.formed.ensures x tidy (omega arith)))

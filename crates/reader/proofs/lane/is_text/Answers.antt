@@ -10,4 +10,4 @@ returns-in-len1 c = one_text _ (omega arith) (sym c.is_plain.ensures ∙ c.if-is
 
 pub returns-in-len2 : goal.returns-in-len2
 returns-in-len2 c =
-    two_text _ (omega arith) (sym c.is_plain-then-octets-lt3.ensures ∙ c.if-is_plain-2.true) (sym c.is_plain-then-is_plain-2.ensures ∙ c.if-is_plain-3.true)
+    two_text _ (omega arith) (sym c.is_plain-then-this-lt3.ensures ∙ c.if-is_plain-2.true) (sym c.is_plain-then-is_plain-2.ensures ∙ c.if-is_plain-3.true)

@@ -8,10 +8,10 @@ use Rattle.reader.proofs.lane.spelled.Goals as goal
 pub overflow_sub-s : goal.overflow_sub-s
 overflow_sub-s c = (length_there _ _ c.length.ensures c.in_ok-length.ensures.value).2
 
-pub slice_bounds-is_text-end : goal.slice_bounds-is_text-end
-slice_bounds-is_text-end c =
+pub is_text-requires : goal.is_text-requires
+is_text-requires c =
     let r = length_there _ _ c.length.ensures c.in_ok-length.ensures.value in
-    omega arith
+    (omega arith, omega arith)
 
 pub overflow_cast-place : goal.overflow_cast-place
 overflow_cast-place c =

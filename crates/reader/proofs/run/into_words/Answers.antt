@@ -20,7 +20,9 @@ returns-then-tables-ne-WORDS c =
     ]
 
 pub reading-requires : goal.reading-requires
-reading-requires c = (zeroed _ (length c.args.tables.now) 7680 c.requires.1 (omega arith), omega arith)
+reading-requires c =
+    let a = c.wipe.auto in
+    (zeroed _ (length c.args.tables.now) 7680 c.wipe.ensures.1 (omega arith), omega arith)
 
 pub returns : goal.returns
-returns c = words_left _ _ _ _ (sym c.if-not-sized.false ∙ c.sized.ensures) (omega arith) (omega arith) c.reading.result c.reading.ensures c.requires.0
+returns c = words_left _ _ _ _ (sym c.if-not-sized.false ∙ c.sized.ensures) (omega arith) (omega arith) c.reading.result c.reading.ensures c.wipe.ensures.0
