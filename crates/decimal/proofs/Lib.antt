@@ -7,6 +7,7 @@ pub mod Tens
 pub mod TextsWritten
 pub mod Said
 pub mod Shapes
+pub mod Steps
 pub mod Machine
 pub mod Scans
 pub mod Cases

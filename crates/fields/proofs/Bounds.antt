@@ -10,7 +10,7 @@ use Rattle.fields.proofs.Laws.{picks}
 
 module _ (top : ℕ) (s : List ℕ) (at : ℕ) where
   abbrev Kept : ℕ → Result (Read ℕ) Fault → Type 0
-  Kept low (Ok x) = (low ≤ x.value) × (x.value ≤ top) × (at < x.next) × (x.next ≤ length s)
+  Kept low (Ok x) = (low ≤ x.value) × (x.value ≤ top) × (at < x.next.at) × (x.next.at ≤ length s)
   Kept low (Err f) = (refusal_number f.refusal ≤ 7) × (f.at ≡ at)
 
   behind-kept : (x more low size : ℕ) → Kept low (behind s at x more low size top)
@@ -41,7 +41,7 @@ module _ (top : ℕ) (s : List ℕ) (at : ℕ) where
     unfolding field_at
     field_kept = picks (Kept 1) (ltb at (length s)) _ _ (λ t. read_kept (map share_of fs) 1 (get_or s at 0 % 2 ^ (9 - bit))) (λ t. (omega arith, refl))
 
-    pub field_got : {x : Read ℕ} → field_at fs top bit s at ≡ Ok x → (1 ≤ x.value) × (x.value ≤ top) × (at < x.next) × (x.next ≤ length s)
+    pub field_got : {x : Read ℕ} → field_at fs top bit s at ≡ Ok x → (1 ≤ x.value) × (x.value ≤ top) × (at < x.next.at) × (x.next.at ≤ length s)
     field_got e = rw e at field_kept
 
     pub field_refused : {f : Fault} → field_at fs top bit s at ≡ Err f → (refusal_number f.refusal ≤ 7) × (f.at ≡ at)

@@ -9,6 +9,7 @@ use Rattle.format.specs.Numbers.{pick, octets}
 use Rattle.format.specs.declared.refusals.Refusal.{Refusal}
 use Rattle.format.specs.declared.refusals.Refusal.TheVariants.{Truncated, Code, Padding, Range}
 use Rattle.format.specs.declared.refusals.Fault.{Fault}
+use Rattle.fields.specs.declared.Cursor.{Cursor}
 use Rattle.fields.specs.declared.Read.{Read}
 use Rattle.fields.specs.Fields.{got, refused, value_from, behind, Share, share, read_in}
 
@@ -157,12 +158,12 @@ pub record Spelled (fs : List Share) (top low lead : ℕ) (s : List ℕ) (at b :
   pub small : v < sizes_in fs
   pub under : a.value ≤ top
   pub room : at + m < length s
-  pub next : a.next ≡ at + 1 + m
+  pub next : a.next.at ≡ at + 1 + m
   pub written : spell_in fs lead v ≡ (lead + b) ∷ take m (drop (at + 1) s)
 
 behind_back : (more size top low : ℕ) (s : List ℕ) (at x : ℕ) (a : Read ℕ) → AreOctets s
     → behind s at x more low size top ≡ Ok a
-    → (v : ℕ) × (a.value ≡ low + v) × (v < size) × (a.value ≤ top) × (at + more < length s) × (a.next ≡ at + 1 + more) × (v / 256 ^ more ≡ x) × (octets more v ≡ take more (drop (at + 1) s))
+    → (v : ℕ) × (a.value ≡ low + v) × (v < size) × (a.value ≤ top) × (at + more < length s) × (a.next.at ≡ at + 1 + more) × (v / 256 ^ more ≡ x) × (octets more v ≡ take more (drop (at + 1) s))
 unfolding behind
 behind_back more size top low s at x a bytes e =
     let v = value_from s (at + 1) x more in
@@ -173,9 +174,9 @@ behind_back more size top low s at x a bytes e =
     let l : at + more < length s = ltb-true _ _ t1 in
     let o = octets_value more s (at + 1) x (omega arith) bytes in
     let en : low + v ≡ a.value = cc in
-    let ec : at + 1 + more ≡ a.next = cc in
+    let ec : record { at = at + 1 + more } ≡ a.next = cc in
     let t : low + v ≤ top = leb-true _ _ t3 in
-    (v, sym en, ltb-true _ _ t2, omega arith, l, sym ec, o.0, o.1))
+    (v, sym en, ltb-true _ _ t2, omega arith, l, ap (λ (c : Cursor). c.at) (sym ec), o.0, o.1))
     (λ t3 e3. never Range at a e3))
     (λ t2 e2. never Padding at a e2))
     (λ t1 e1. never Truncated at a e1)

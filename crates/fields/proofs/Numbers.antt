@@ -1,6 +1,6 @@
 -- What the reading of a number is, from any starting bit: a law for each way out of `Cursor::longer_number`.
 -- Assumes nothing.
-use Rattle.std.proofs.Common.{◌≡◌, ℕ, ◌+◌, ◌-◌, ◌*◌, ◌^◌, ◌<◌, ◌≤◌, List, [], ◌∷◌, map, length, get_or, take, drop, refl, arith, pow_pos, pow-add}
+use Rattle.std.proofs.Common.{◌≡◌, ℕ, ◌+◌, ◌-◌, ◌*◌, ◌/◌, ◌%◌, ◌^◌, ◌<◌, ◌≤◌, List, [], ◌∷◌, map, length, get_or, take, drop, sym, refl, ◌∙◌, arith, pow_pos, pow-add}
 use Rattle.format.specs.Numbers.{numbers, c21, c25, behind_first, from_bits}
 use Rattle.format.specs.declared.refusals.Refusal.TheVariants.{Code, Padding}
 use Rattle.fields.specs.Fields.{refused, bits_of, behind, Share, share, share_of, field_at}
@@ -29,6 +29,13 @@ c21_are = refl
 pub c21_ordered : Ordered c21
 unfolding c21 behind_first from_bits
 c21_ordered = omega arith
+
+-- after the padding of C.21 the value starts with the octet's last four bits
+pub count_rest : (o x : ℕ) → bits_of o 2 4 ≡ 0 → x ≡ bits_of o 5 8 → x ≡ bits_of o 2 8
+count_rest o x z e =
+    let n : o / 1 ≡ o = omega arith in
+    let p : 0 + o % 16 ≡ o % 16 = omega arith in
+    e ∙ sym (rw n (rw (z, n) at (split o 2 4 (omega arith) (omega arith)) ∙ p))
 
 -- C.25
 pub c25_are : map share_of c25 ≡ share 64 0 64 ∷ share 32 1 8192 ∷ share 16 2 1048576 ∷ []

@@ -1,12 +1,13 @@
 -- Which of up to eight octets are plain, from their weight: where `not_plain` has none of their high bits set, each is from 20 to 7F. By induction from the
 -- lowest octet on: below the first that is not plain nothing is borrowed.
 -- Assumes nothing.
-use Rattle.std.proofs.Common.{◌≡◌, ℕ, zero, suc, ◌+◌, ◌-◌, ◌*◌, ◌/◌, ◌%◌, ◌^◌, ◌<◌, ◌≤◌, max, List, [], ◌∷◌, length, get_or, take, drop, length-take, length-drop, ◌∙◌, subst, le_trans, arith, lit<, get_or-drop, get_or-take, pow_pos, pow-add, shr-shr}
+use Rattle.std.proofs.Common.{◌≡◌, ℕ, zero, suc, ◌+◌, ◌-◌, ◌*◌, ◌/◌, ◌%◌, ◌^◌, ◌<◌, ◌≤◌, max, true, ◌&&◌, leb, List, [], ◌∷◌, length, get_or, take, drop, length-take, length-drop, ◌∙◌, subst, le_trans, arith, lit<, get_or-drop, get_or-take, pow_pos, pow-add, shr-shr, leb-true}
 use native.Mathlib.Decide.{dec_lt}
 use native.Mathlib.Nat.{le-min, max-le, le-max_left, min-le_left, min-le_right, zero-div}
 use lib.Arith.{bin_ind}
 use lib.Bits.{bit_and, bit_or, and_block, and_high, and_le_r, and_mod, and_step, and_zero_l, or_comm, or_step}
 use Rattle.fields.specs.WeightContracts.{weight, Small, high_bits, spaces, not_plain, Plain}
+use Rattle.fields.proofs.Utf8.{both}
 
 -- a mask leaves no more of one number than of two
 or_more : (a b h : ℕ) → bit_and a h ≤ bit_and (bit_or a b) h
@@ -168,6 +169,15 @@ module _ (x : List ℕ) where
         (λ j l m. rw (octet_low u v (j - a) (omega arith), octet_of a 4 u j h.0 h.1 l m) at (p (j - a) (omega arith))),
         (λ j l m. rw (octet_high u v (j - b) h.2, octet_of b 4 v j k.0 k.1 l m) at (p (4 + (j - b)) (omega arith))),
       )
+
+  -- no octet is below one that is plain or above one that is
+  pub between_plain : (low high from to : ℕ) → ((j : ℕ) → from ≤ j → j < to → (low ≤ get_or x j 0) × (get_or x j 0 ≤ high))
+      → (leb 0x20 low && leb low 0x7F) ≡ true → (leb 0x20 high && leb high 0x7F) ≡ true → Plain x from to
+  between_plain low high from to p e f j l h =
+      let b = p j l h in
+      let u : 0x20 ≤ low = leb-true 0x20 low (both (leb 0x20 low) (leb low 0x7F) e).0 in
+      let v : high ≤ 0x7F = leb-true high 0x7F (both (leb 0x20 high) (leb high 0x7F) f).1 in
+      (omega arith, omega arith)
 
 -- ---- of a stretch
 

@@ -9,7 +9,7 @@ use Rattle.fields.specs.declared.Read.{Read}
 
 -- A value was read and the next field starts at `next`; or what stands at `at` is refused.
 abbrev pub got : {A : Type 0} → A → (next : ℕ) → Result (Read A) Fault
-got x next = Ok (record { value = x; next = next })
+got x next = Ok (record { value = x; next = record { at = next } })
 
 abbrev pub refused : {A : Type 0} → Refusal → (at : ℕ) → Result A Fault
 refused r at = Err (record { refusal = r; at = at })

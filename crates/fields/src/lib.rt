@@ -34,11 +34,11 @@ pub struct Cursor {
     pub at: usize,
 }
 
-// What was read, and where the next field starts.
+// What was read, and the cursor at the next field.
 #[derive(Clone, Copy)]
 pub struct Read<T> {
     pub value: T,
-    pub next: usize,
+    pub next: Cursor,
 }
 
 // What was read, or the refusal and its place.
@@ -92,7 +92,7 @@ impl Cursor {
         }
         Ok(Read {
             value: low + v,
-            next: at + 1 + more,
+            next: Cursor { at: at + 1 + more },
         })
     }
 

@@ -1,12 +1,12 @@
 -- Octets put one behind the other by a loop that does not know how many there will be.
 -- Assumes nothing.
-use mathlib.Core.Path.{◌≡◌, refl}
+use mathlib.Core.Path.{◌≡◌, refl, sym, ◌∙◌}
 use mathlib.Core.List.{List, [], ◌∷◌}
 use Prim.Native.Nat.{ℕ, ◌+◌}
 use lib.ListN.{length, set}
-use lib.Seq.{sets}
+use lib.Seq.{sets, length-sets}
 use Rattle.fields.specs.PutContracts.{Puts}
-use Rattle.fields.proofs.Puts.{puts_nothing, puts_octet}
+use Rattle.fields.proofs.Puts.{puts_kept, puts_nothing, puts_octet}
 
 -- Once `rest` is put from i on, all of it is put from `at` on.
 abbrev pub Left : (out₀ : List ℕ) (at : ℕ) (all out : List ℕ) (i : ℕ) (rest : List ℕ) → Type 0
@@ -25,3 +25,7 @@ module _ (out₀ : List ℕ) (at : ℕ) (all out : List ℕ) (i : ℕ) where
 
     pub left-place : i + length rest ≡ at + length all
     left-place = finished.behind
+
+    -- the output is as long as it was at first
+    pub left-kept : length out ≡ length out₀
+    left-kept = sym (length-sets out i rest) ∙ puts_kept finished

@@ -1,25 +1,99 @@
 -- The laws of the code that decides: the rows that an octet leaves, one more character, one more octet of an alphabet, how many octets integers have.
 -- Assumes nothing.
 use mathlib.Core.Path.{◌≡◌, refl, sym, ◌∙◌}
-use mathlib.Core.Bool.{Bool, true, false, ◌&&◌}
+use mathlib.Core.Bool.{Bool, true, false, ◌&&◌, ◌||◌}
 use mathlib.Core.List.{List, [], ◌∷◌}
-use Prim.Native.Nat.{ℕ, zero, suc, ◌-◌, ◌%◌, ◌≤◌, ◌<◌}
+use Prim.Native.Nat.{ℕ, zero, suc, ◌+◌, ◌-◌, ◌%◌, ◌≤◌, ◌<◌}
 use native.Mathlib.Omega.{arith}
-use borrow.Author.Tests.{ne_eqb}
-use lib.Dec.{ltb, eqb}
-use lib.ListN.{length, drop, length-take}
+use borrow.Author.Tests.{lt-leb, ltb-true, ne_eqb}
+use lib.Dec.{ltb, leb, eqb}
+use lib.ListN.{length, get_or, take, drop, length-take}
 use Rattle.std.proofs.lemmas.Bool.Decides.{nat_tests}
 use Rattle.format.specs.Octets.{AreOctets}
 use Rattle.format.specs.Numbers.{pick}
-use Rattle.format.specs.Characters.{Range, All}
-use Rattle.fields.proofs.Utf8.{told, never}
-use Rattle.fields.proofs.Characters.{Fits}
+use Rattle.format.specs.Characters.{Range, ◌‥◌, All}
+use Rattle.fields.specs.Utf8.{fits}
+use Rattle.fields.proofs.Utf8.{told, never, both}
+use Rattle.fields.proofs.Characters.{In, range_in, Fits}
 use Rattle.decimal.specs.Reading.{is_whole}
 use Rattle.forms.specs.Reading.{size, whole, rows16, is_text16, are_places, are_integers}
 use Rattle.forms.specs.Streams.{part}
 use Rattle.forms.proofs.Rows.{size_is}
 use Rattle.forms.proofs.Lists.{part-octets}
-use Rattle.forms.proofs.Streams.{part_length}
+use Rattle.forms.proofs.Streams.{part_cons, part_length}
+
+-- ---- the rows that an octet leaves
+
+-- no character of these rows starts with an octet from lo to hi
+abbrev pub clear : ℕ → ℕ → List (List Range) → Bool
+clear lo hi [] = true
+clear lo hi ([] ∷ rows) = false
+clear lo hi ((a ‥ z ∷ row) ∷ rows) = (ltb z lo || ltb hi a) && clear lo hi rows
+
+-- an octet from lo to hi is outside a to z, where these two stretches share none
+outside : (lo hi a z b : ℕ) → (ltb z lo || ltb hi a) ≡ true → In (lo ‥ hi) b → (leb a b && leb b z) ≡ false
+outside lo hi a z b e h =
+    told (ltb z lo)
+    (λ t. let k = ltb-true z lo t in let n : z < b = omega arith in told (leb a b) (λ q. rw (q, lt-leb _ _ n)) (λ q. rw q))
+    (λ t. let k = ltb-true hi a (rw t at e) in let n : b < a = omega arith in rw (lt-leb _ _ n))
+
+module _ (lo hi b : ℕ) (x : List ℕ) (h : In (lo ‥ hi) b) where
+  -- such an octet starts no character of clear rows
+  clear_none : (rows : List (List Range)) → clear lo hi rows ≡ true → size rows (b ∷ x) ≡ 0
+  unfolding size fits
+  clear_none [] e = refl
+  clear_none ([] ∷ rows) e = never e
+  clear_none ((a ‥ z ∷ row) ∷ rows) e =
+      let p = both (ltb z lo || ltb hi a) (clear lo hi rows) e in
+      rw (outside lo hi a z b p.0 h) (clear_none rows p.1)
+
+  -- clear rows before the others change nothing, and neither do clear rows after them
+  clear_front : (rows : List (List Range)) (i : ℕ) → clear lo hi (take i rows) ≡ true → size rows (b ∷ x) ≡ size (drop i rows) (b ∷ x)
+  unfolding size fits
+  clear_front rows zero e = refl
+  clear_front [] (suc i) e = refl
+  clear_front ([] ∷ rows) (suc i) e = never e
+  clear_front ((a ‥ z ∷ row) ∷ rows) (suc i) e =
+      let p = both (ltb z lo || ltb hi a) (clear lo hi (take i rows)) e in
+      rw (outside lo hi a z b p.0 h) (clear_front rows i p.1)
+
+  clear_back : (rows : List (List Range)) (m : ℕ) → clear lo hi (drop m rows) ≡ true → size rows (b ∷ x) ≡ size (take m rows) (b ∷ x)
+  unfolding size
+  clear_back rows zero e = clear_none rows e
+  clear_back [] (suc m) e = refl
+  clear_back (row ∷ rows) (suc m) e = rw (clear_back rows m e)
+
+module _ (s : List ℕ) (at to : ℕ) (h : at < to) (l : to ≤ length s) where
+  -- no row starts with such an octet: no character is in front
+  pub none : (rows : List (List Range)) (lo hi : ℕ) → clear lo hi rows ≡ true → In (lo ‥ hi) (get_or s at 0) → 0 ≡ size rows (part s at to)
+  none rows lo hi e k = rw (part_cons s at to h l) (sym (clear_none lo hi (get_or s at 0) _ k rows e))
+
+  -- of all rows, only m from the i-th on have characters that start with such an octet
+  pub some : (rows : List (List Range)) (i m lo hi n : ℕ) → (clear lo hi (take i rows) && clear lo hi (drop m (drop i rows))) ≡ true → In (lo ‥ hi) (get_or s at 0)
+      → n ≡ size (take m (drop i rows)) (part s at to) → n ≡ size rows (part s at to)
+  some rows i m lo hi n e k f =
+      let p = both (clear lo hi (take i rows)) (clear lo hi (drop m (drop i rows))) e in
+      let c = part_cons s at to h l in
+      rw c (rw c at f ∙ sym (clear_front lo hi (get_or s at 0) _ k rows i p.0 ∙ clear_back lo hi (get_or s at 0) _ k (drop i rows) m p.1))
+
+  module _ (lo hi : ℕ) (row : List Range) where
+    -- the first octet is of the first row, and the rest fits it: as many octets as the row has
+    pub hit : (rows : List (List Range)) → In (lo ‥ hi) (get_or s at 0) → true ≡ fits row (part s (at + 1) to) → suc (length row) ≡ size ((lo ‥ hi ∷ row) ∷ rows) (part s at to)
+    unfolding size fits
+    hit rows k e = rw (part_cons s at to h l, range_in lo hi _ k, ← e)
+
+    -- what follows does not fit the first row: it is told by the others
+    pub miss : (rows : List (List Range)) (n : ℕ) → false ≡ fits row (part s (at + 1) to) → n ≡ size rows (part s at to) → n ≡ size ((lo ‥ hi ∷ row) ∷ rows) (part s at to)
+    unfolding size fits
+    miss rows n e f =
+        let c = part_cons s at to h l in
+        told (leb lo (get_or s at 0) && leb (get_or s at 0) hi) (λ q. rw (c, q, ← e) (rw c at f)) (λ q. rw (c, q) (rw c at f))
+
+    -- the first octet is of the only row: its rest decides
+    pub last : (n : ℕ) (t : Bool) → In (lo ‥ hi) (get_or s at 0) → t ≡ fits row (part s (at + 1) to) → n ≡ pick t (suc (length row)) 0
+        → n ≡ size ((lo ‥ hi ∷ row) ∷ []) (part s at to)
+    unfolding size fits
+    last n t k e f = rw (part_cons s at to h l, range_in lo hi _ k, ← e) f
 
 -- ---- one more character
 

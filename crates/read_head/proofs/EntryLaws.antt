@@ -49,7 +49,7 @@ Goes s c w (Err f) d v x = Unit {0}
 
 -- what was read is left out
 abbrev next_of : {A : Type 0} → Result (Read A) Fault → Result ℕ Fault
-next_of (Ok r) = Ok r.next
+next_of (Ok r) = Ok r.next.at
 next_of (Err f) = Err f
 
 module _ (s c w d v x : List ℕ) where

@@ -53,7 +53,7 @@ module _ (t : Table) (s : List ℕ) (n k : ℕ) (v : Vocabulary Located) where
     entries_refused i p e = rw (one, ← e)
 
 -- ---- a table: r is how many entries it lists
-pub count_within : (s : List ℕ) (k : ℕ) (r : Read ℕ) → Ok r ≡ field_at c21 top 1 s k → r.next ≤ length s
+pub count_within : (s : List ℕ) (k : ℕ) (r : Read ℕ) → Ok r ≡ field_at c21 top 1 s k → r.next.at ≤ length s
 count_within s k r read = (field_got top s k c21 1 (sym read)).3
 
 module _ (s c w : List ℕ) (t : Table) (bit k : ℕ) (b : Bool) (is : b ≡ eqb bit 1) where
@@ -71,7 +71,7 @@ module _ (s c w : List ℕ) (t : Table) (bit k : ℕ) (b : Bool) (is : b ≡ eqb
         let b = field_refused top s k c21 1 (sym read) in
         rw (← is, there, ← read) (refl, (omega arith, omega arith))
 
-    pub table_read : (r : Read ℕ) → Ok r ≡ field_at c21 top 1 s k → (g : Passed) → g ≡ entries_at link t s r.value r.next (vocabulary (unlisted c) w) → g ≡ table
+    pub table_read : (r : Read ℕ) → Ok r ≡ field_at c21 top 1 s k → (g : Passed) → g ≡ entries_at link t s r.value r.next.at (vocabulary (unlisted c) w) → g ≡ table
     unfolding present_at
     table_read r read g h = rw (← is, there, ← read) h
 

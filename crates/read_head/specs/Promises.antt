@@ -38,7 +38,7 @@ PassesBeside s c w r d v f = (x : Octets) → Tidy s c w x → Passes s c w r d 
 -- A part of a name: its number is that of an entry, 0 if it is not there.
 abbrev pub PartThere : Octets → (c : Words) (table : ℕ) (there : Bool) → Result (Read ℕ) Fault → Type 0
 PartThere s c table there (Ok r) =
-    (r.value ≤ count_of (unlisted c) table) × (r.next ≤ length s) × (there ≡ true → 1 ≤ r.value)
+    (r.value ≤ count_of (unlisted c) table) × (r.next.at ≤ length s) × (there ≡ true → 1 ≤ r.value)
 PartThere s c table there (Err f) = Unit {0}
 
 abbrev pub ReadsPart : Octets → (c : Words) (table at : ℕ) (there : Bool) → Result (Read ℕ) Fault → Type 0

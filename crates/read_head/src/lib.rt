@@ -63,7 +63,7 @@ fn table(
         return Ok(at);
     }
     let n = Cursor { at }.count(s)?;
-    entries(s, t, counts, index, table, n.value, n.next)
+    entries(s, t, counts, index, table, n.value, n.next.at)
 }
 
 // The ten tables, one after the other.

@@ -31,7 +31,7 @@ fn identifying(
         return Err(Refusal::Padding.at(at));
     }
     let read = read_names::id(s, t, counts, index, table, at)?;
-    Ok(read.next)
+    Ok(read.next.at)
 }
 
 // Another string, of one of the tables 5 to 7, which are not searched.
@@ -51,11 +51,11 @@ fn another(
     }
     if bits(o, 3, 4) != 0 {
         let read = read_names::in_form(s, t, counts, table, at, 5, true)?;
-        return Ok(read.next);
+        return Ok(read.next.at);
     }
     let length = Cursor { at }.length(s, 5);
     let read = read_names::formed(s, t, counts, table, at, StringForm::Utf8, length, true)?;
-    Ok(read.next)
+    Ok(read.next.at)
 }
 
 // C.16: a part of a name, by its number, if its presence bit says that it is there; else its number is 0.
@@ -64,7 +64,10 @@ fn part(s: &[u8], counts: &[u32], table: usize, at: usize, there: bool) -> Readi
     ensures { ReadsPart s.now counts.now table at there result }
 {
     if !there {
-        return Ok(Read { value: 0, next: at });
+        return Ok(Read {
+            value: 0,
+            next: Cursor { at },
+        });
     }
     let o = read_names::octet(s, at);
     // The code 111 is none, whatever bit 1 is.
@@ -100,7 +103,10 @@ fn triple(
     }
     index::enter_name(t, index, table, n, x.a, x.b, x.c, 0);
     counts[table] = n + 1;
-    Ok(Read { value: n + 1, next })
+    Ok(Read {
+        value: n + 1,
+        next: Cursor { at: next },
+    })
 }
 
 // A name whose first octet is b, 0, 1 or 3: its parts, and then it is added.
@@ -117,15 +123,21 @@ fn parts(
     ensures { Passes s.now counts.old t.old result counts.new t.new index.new (surrogate_at link (name_table_of table) s.now at) }
 {
     let prefix = part(s, counts, PREFIX, at + 1, 2 <= b)?;
-    let namespace = part(s, counts, NAMESPACE_NAME, prefix.next, bits(b, 8, 8) == 1)?;
-    let local = part(s, counts, LOCAL_NAME, namespace.next, true)?;
+    let namespace = part(
+        s,
+        counts,
+        NAMESPACE_NAME,
+        prefix.next.at,
+        bits(b, 8, 8) == 1,
+    )?;
+    let local = part(s, counts, LOCAL_NAME, namespace.next.at, true)?;
     let x = Row {
         a: prefix.value,
         b: namespace.value,
         c: local.value,
     };
-    let added = triple(t, counts, index, table, at, local.next, x)?;
-    Ok(added.next)
+    let added = triple(t, counts, index, table, at, local.next.at, x)?;
+    Ok(added.next.at)
 }
 
 // A name of table 8 or 9.

@@ -59,7 +59,7 @@ module _ (a : S.Got IdRead) (table : ℕ) (d v : Words) where
   id_not f q = refused_is as_id a _ _ (q ∙ id_seen_lem a)
 
   pub id_is : (x : Read ℕ) → seen_id table (Ok x) d v ≡ id_seen a
-      → Is as_id a (record { text = event_string_at v table x.value; number = x.value }) x.next (vocabulary (unlisted d) v)
+      → Is as_id a (record { text = event_string_at v table x.value; number = x.value }) x.next.at (vocabulary (unlisted d) v)
   id_is x q = got_is as_id a _ _ _ (q ∙ id_seen_lem a)
 
 -- ---- a string without a number
@@ -74,7 +74,7 @@ module _ (a : S.Got StringRead) (d v : Words) where
   pub string_not : (f : Fault) → seen_field (Err f) d v ≡ string_seen a → a ≡ S.refused (refusal_number f.refusal) f.at
   string_not f q = refused_is as_string a _ _ (q ∙ string_seen_lem a)
 
-  pub string_is : (x : Read EventString) → seen_field (Ok x) d v ≡ string_seen a → Is as_string a x.value x.next (vocabulary (unlisted d) v)
+  pub string_is : (x : Read EventString) → seen_field (Ok x) d v ≡ string_seen a → Is as_string a x.value x.next.at (vocabulary (unlisted d) v)
   string_is x q = got_is as_string a _ _ _ (q ∙ string_seen_lem a)
 
 -- ---- a name
@@ -89,7 +89,7 @@ module _ (a : S.Got NameRead) (table : ℕ) (d v : Words) where
   pub name_not : (f : Fault) → seen_name table (Err f) d v ≡ name_seen a → a ≡ S.refused (refusal_number f.refusal) f.at
   name_not f q = refused_is as_name a _ _ (q ∙ name_seen_lem a)
 
-  pub name_is : (x : Read ℕ) → seen_name table (Ok x) d v ≡ name_seen a → Is as_name a (name_strings_at v table x.value) x.next (vocabulary (unlisted d) v)
+  pub name_is : (x : Read ℕ) → seen_name table (Ok x) d v ≡ name_seen a → Is as_name a (name_strings_at v table x.value) x.next.at (vocabulary (unlisted d) v)
   name_is x q = got_is as_name a _ _ _ (q ∙ name_seen_lem a)
 
 -- ---- a declaration
@@ -105,7 +105,7 @@ module _ (a : S.Got DeclaredRead) (d v : Words) where
   declared_not f q = refused_is as_declared a _ _ (q ∙ declared_seen_lem a)
 
   pub declared_is : (x : Read Binding) → seen_declared (Ok x) d v ≡ declared_seen a
-      → Is as_declared a (record { prefix = event_string_at v 0 x.value.prefix; namespace = event_string_at v 1 x.value.namespace; local = Absent }) x.next (vocabulary (unlisted d) v)
+      → Is as_declared a (record { prefix = event_string_at v 0 x.value.prefix; namespace = event_string_at v 1 x.value.namespace; local = Absent }) x.next.at (vocabulary (unlisted d) v)
   declared_is x q = got_is as_declared a _ _ _ (q ∙ declared_seen_lem a)
 
 -- ---- what is left

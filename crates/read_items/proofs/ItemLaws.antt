@@ -71,18 +71,18 @@ module _ {s : Octets} {st : State} {n : ℕ} {a b : Lent} (k : ℕ) where
 
   module _ (x : Read EventString) {e : E.Event} (g : Good s st a) (q : b.records ≡ kept a.records n k e) where
     pub chunk_more : e ≡ chunk_record x.value → Says s a (Ok x) b (literal_at link c15 s CONTENT_CHARACTER_CHUNK k (stand_of st a).state.tables)
-        → Meets s st n a (Ok (Event (moved_to st x.next st.mode) k)) b (chunk_at link s k)
+        → Meets s st n a (Ok (Event (moved_to st x.next.at st.mode) k)) b (chunk_at link s k)
     unfolding chunk_at record_of
     chunk_more z y =
         let i = string_is (literal_at link c15 s CONTENT_CHARACTER_CHUNK k (stand_of st a).state.tables) b.counts b.tables x y.0 in
-        tell (Text i.what.string by for_text i.what.how) (moved_good st x.next st.mode y.1 g.shallow) q (ap chunk_record i.seen ∙ sym z) (into_got _ i.is)
+        tell (Text i.what.string by for_text i.what.how) (moved_good st x.next.at st.mode y.1 g.shallow) q (ap chunk_record i.seen ∙ sym z) (into_got _ i.is)
 
     pub comment_more : e ≡ comment_record x.value → Says s a (Ok x) b (value_at link s OTHER_STRING (k + 1) (stand_of st a).state.tables)
-        → Meets s st n a (Ok (Event (moved_to st x.next st.mode) k)) b (comment_at link s k)
+        → Meets s st n a (Ok (Event (moved_to st x.next.at st.mode) k)) b (comment_at link s k)
     unfolding comment_at record_of
     comment_more z y =
         let i = string_is (value_at link s OTHER_STRING (suc k) (stand_of st a).state.tables) b.counts b.tables x (rw add-one at y.0) in
-        tell (Comment i.what.string by for_comment i.what.how) (moved_good st x.next st.mode y.1 g.shallow) q (ap comment_record i.seen ∙ sym z) (into_got _ i.is)
+        tell (Comment i.what.string by for_comment i.what.how) (moved_good st x.next.at st.mode y.1 g.shallow) q (ap comment_record i.seen ∙ sym z) (into_got _ i.is)
 
 -- ---- instructions
 module _ {s : Octets} {st : State} {n : ℕ} {a b : Lent} (k : ℕ) where
@@ -96,24 +96,24 @@ module _ {s : Octets} {st : State} {n : ℕ} {a b : Lent} (k : ℕ) where
   module _ (c : Lent) (t : Read ℕ)
       (y : seen_id 3 (Ok t) c.counts c.tables ≡ id_seen (id_at link s OTHER_NCNAME (k + 1) (stand_of st a).state.tables))
       (l : IdLeft s a.counts a.tables 3 (Ok t) c.counts c.tables c.index) where
-    pub instruction_refused : {f : Fault} → Says s c (Err f) b (value_at link s OTHER_STRING t.next (vocabulary (unlisted c.counts) c.tables))
+    pub instruction_refused : {f : Fault} → Says s c (Err f) b (value_at link s OTHER_STRING t.next.at (vocabulary (unlisted c.counts) c.tables))
         → b.records ≡ a.records → Meets s st n a (Err f) b (instruction_at link s k)
     unfolding instruction_at
     instruction_refused {f = f} x z =
         let i = id_is (id_at link s OTHER_NCNAME (suc k) (stand_of st a).state.tables) 3 c.counts c.tables t (rw add-one at y) in
-        refuse x.1 z (rw (i.is, string_not (value_at link s OTHER_STRING t.next (vocabulary (unlisted c.counts) c.tables)) b.counts b.tables f x.0))
+        refuse x.1 z (rw (i.is, string_not (value_at link s OTHER_STRING t.next.at (vocabulary (unlisted c.counts) c.tables)) b.counts b.tables f x.0))
 
-    pub instruction_more : {v : Read EventString} {e : E.Event} → Says s c (Ok v) b (value_at link s OTHER_STRING t.next (vocabulary (unlisted c.counts) c.tables))
+    pub instruction_more : {v : Read EventString} {e : E.Event} → Says s c (Ok v) b (value_at link s OTHER_STRING t.next.at (vocabulary (unlisted c.counts) c.tables))
         → Good s st a → b.records ≡ kept a.records n k e → e ≡ instruction_record (event_string_at b.tables 3 t.value) v.value
-        → Meets s st n a (Ok (Event (moved_to st v.next st.mode) k)) b (instruction_at link s k)
+        → Meets s st n a (Ok (Event (moved_to st v.next.at st.mode) k)) b (instruction_at link s k)
     unfolding instruction_at record_of
     instruction_more {v = v} x g z w =
         let i = id_is (id_at link s OTHER_NCNAME (suc k) (stand_of st a).state.tables) 3 c.counts c.tables t (rw add-one at y) in
-        let j = string_is (value_at link s OTHER_STRING t.next (vocabulary (unlisted c.counts) c.tables)) b.counts b.tables v x.0 in
+        let j = string_is (value_at link s OTHER_STRING t.next.at (vocabulary (unlisted c.counts) c.tables)) b.counts b.tables v x.0 in
         let left = x.1 in
         let text = ap (λ (z : Seen). z.text) i.seen in
         let same = string_stays c.counts c.tables b.counts b.tables left.grown 3 t.value (omega arith) l.1 in
-        tell (Instruction i.what.string j.what.string by for_instruction i.what.how j.what.how) (moved_good st v.next st.mode left g.shallow) z
+        tell (Instruction i.what.string j.what.string by for_instruction i.what.how j.what.how) (moved_good st v.next.at st.mode left g.shallow) z
         (rw (text, j.seen, ← same) (sym w))
         (into_got _ i.is ∙ into_got _ j.is)
 
@@ -157,13 +157,13 @@ module _ {s : Octets} {st : State} {n : ℕ} {a b : Lent} (k : ℕ) (l : Bool) w
   pub namespace_more : {x : Read Binding} {e : E.Event} → seen_declared (Ok x) b.counts b.tables ≡ declared_seen (declared_at link s k (stand_of st a).state.tables)
       → DeclaredLeft s a.counts a.tables (Ok x) b.counts b.tables b.index → st.level < 32 → b.records ≡ kept a.records n k e
       → e ≡ namespace_record (event_string_at b.tables 0 x.value.prefix) (event_string_at b.tables 1 x.value.namespace)
-      → Meets s st n a (Ok (Event (moved_to st x.next (declaring_mode l)) k)) b (λ v. namespace_at link s k v l)
+      → Meets s st n a (Ok (Event (moved_to st x.next.at (declaring_mode l)) k)) b (λ v. namespace_at link s k v l)
   unfolding namespace_at record_of
   namespace_more {x = x} y z h q w =
       let i = declared_is (declared_at link s k (stand_of st a).state.tables) b.counts b.tables x y in
       let c = declaring_coming l in
       tell (Namespace i.what.prefix i.what.namespace by for_namespace i.what.prefix_how i.what.namespace_how)
-      (moved_good st x.next (declaring_mode l) z.0 (omega arith)) q (ap (λ (x : Parts). namespace_record x.prefix x.namespace) i.seen ∙ sym w)
+      (moved_good st x.next.at (declaring_mode l) z.0 (omega arith)) q (ap (λ (x : Parts). namespace_record x.prefix x.namespace) i.seen ∙ sym w)
       (into_got _ i.is ∙ rw (mode_declaring l))
 
 -- ---- a Start
@@ -292,23 +292,23 @@ module _ {s : Octets} {st : State} {n : ℕ} {a b : Lent} (k : ℕ) {d : Stand �
     (c : Lent) (m : Read ℕ)
     (y : seen_name 9 (Ok m) c.counts c.tables ≡ name_seen (name_at link of_attribute s (get_or s k 0) k (stand_of st a).state.tables))
     (l : IdLeft s a.counts a.tables 9 (Ok m) c.counts c.tables c.index) where
-  pub value_refused : {f : Fault} → Says s c (Err f) b (value_at link s ATTRIBUTE_VALUE m.next (vocabulary (unlisted c.counts) c.tables))
+  pub value_refused : {f : Fault} → Says s c (Err f) b (value_at link s ATTRIBUTE_VALUE m.next.at (vocabulary (unlisted c.counts) c.tables))
       → b.records ≡ a.records → Met s st n a (Err f) b d
   value_refused {f = f} x z =
       let i = name_is (name_at link of_attribute s (get_or s k 0) k (stand_of st a).state.tables) 9 c.counts c.tables m y in
-      refuse x.1 z (w ∙ rw (i.is, string_not (value_at link s ATTRIBUTE_VALUE m.next (vocabulary (unlisted c.counts) c.tables)) b.counts b.tables f x.0))
+      refuse x.1 z (w ∙ rw (i.is, string_not (value_at link s ATTRIBUTE_VALUE m.next.at (vocabulary (unlisted c.counts) c.tables)) b.counts b.tables f x.0))
 
-  pub attribute_more : {v : Read EventString} → Says s c (Ok v) b (value_at link s ATTRIBUTE_VALUE m.next (vocabulary (unlisted c.counts) c.tables))
+  pub attribute_more : {v : Read EventString} → Says s c (Ok v) b (value_at link s ATTRIBUTE_VALUE m.next.at (vocabulary (unlisted c.counts) c.tables))
       → 1 ≤ m.value → Good s st a → b.records ≡ kept a.records n k (named_record K.Attribute (name_strings_at b.tables 9 m.value) v.value)
-      → Met s st n a (Ok (Event (moved_to st v.next 2) k)) b d
+      → Met s st n a (Ok (Event (moved_to st v.next.at 2) k)) b d
   unfolding record_of coming
   attribute_more {v = v} x o g z =
       let i = name_is (name_at link of_attribute s (get_or s k 0) k (stand_of st a).state.tables) 9 c.counts c.tables m y in
-      let j = string_is (value_at link s ATTRIBUTE_VALUE m.next (vocabulary (unlisted c.counts) c.tables)) b.counts b.tables v x.0 in
+      let j = string_is (value_at link s ATTRIBUTE_VALUE m.next.at (vocabulary (unlisted c.counts) c.tables)) b.counts b.tables v x.0 in
       let left = x.1 in
       let same = name_stays s c.counts c.tables c.index l.0.tidy 9 m.value (omega arith) (omega arith) o l.1 b.counts b.tables left.grown in
       let h = g.shallow in
-      tell (Attribute i.what.name j.what.string by for_attribute i.what.how j.what.how) (moved_good st v.next 2 left (omega arith)) z
+      tell (Attribute i.what.name j.what.string by for_attribute i.what.how j.what.how) (moved_good st v.next.at 2 left (omega arith)) z
       (ap (λ (u : Parts). named_record K.Attribute u (as_string j.what)) (i.seen ∙ sym same) ∙ ap (named_record K.Attribute (name_strings_at b.tables 9 m.value)) j.seen)
       (w ∙ into_got _ i.is ∙ into_got _ j.is ∙ rw mode_listed)
 

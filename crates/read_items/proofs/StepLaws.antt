@@ -83,7 +83,7 @@ module _ (st : State) (k : ℕ) (l : Bool) (t r : Words) (n : ℕ) {x : Read ℕ
   unfolding start_step start_records link
   start_deep h q = record { is = rw (le-ltb _ _ h) q; keeps = rw (le-ltb _ _ h) refl }
 
-  pub start-opened : {r' : Words} → st.level < 32 → y ≡ Ok (Event (opened_at st x.next l) k)
+  pub start-opened : {r' : Words} → st.level < 32 → y ≡ Ok (Event (opened_at st x.next.at l) k)
       → r' ≡ kept r n k (named_record Start (name_strings_at t 8 x.value) Absent) → StartsBy st k l t x r n y r'
   unfolding start_step start_records link
   start-opened h q z = record { is = rw (lt-ltb _ _ h) q; keeps = rw (lt-ltb _ _ h) z }

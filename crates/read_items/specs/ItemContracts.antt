@@ -45,7 +45,7 @@ named_record kind x value =
 
 -- A Start at octet k, whose name is read: no more elements may be open, or its event is kept in record n.
 unfoldable pub start_step : State → ℕ → Bool → Read ℕ → Result Step Fault
-start_step st k a name = pick (ltb st.level link.depth) (Ok (Event (opened_at st name.next a) k)) (Stopped Depth k)
+start_step st k a name = pick (ltb st.level link.depth) (Ok (Event (opened_at st name.next.at a) k)) (Stopped Depth k)
 
 unfoldable pub start_records : State → ℕ → Words → Read ℕ → Words → ℕ → Words
 start_records st k t name r n =

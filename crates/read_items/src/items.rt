@@ -92,7 +92,7 @@ fn start_of(
     a: bool,
     name: Read<u32>,
 ) -> Result<Step, Fault>
-    requires { NameThere t.now 8 name.value × (name.next ≤ 16384) × (k ≤ 16384) }
+    requires { NameThere t.now 8 name.value × (name.next.at ≤ 16384) × (k ≤ 16384) }
     ensures { StartsBy st k a t.now name records.old n result records.new }
 {
     if st.level >= State::LEVELS {
@@ -108,7 +108,7 @@ fn start_of(
         Kind::Start,
         EventString::Absent,
     );
-    Ok(Step::Event(st.opened(name.next, a), k))
+    Ok(Step::Event(st.opened(name.next.at, a), k))
 }
 
 // A chunk at octet k, whose bits start with 10.
@@ -128,7 +128,7 @@ fn chunk_at(
     let text = read_names::chunk(s, t, counts, k)?;
     let e = events::chunk(text.value);
     events::keep(records, n, k, e);
-    Ok(Step::Event(st.moved(text.next, st.mode), k))
+    Ok(Step::Event(st.moved(text.next.at, st.mode), k))
 }
 
 // A comment, after the octet k.
@@ -148,7 +148,7 @@ fn comment_at(
     let text = value(s, t, counts, OTHER_STRING, k + 1)?;
     let e = events::comment(text.value);
     events::keep(records, n, k, e);
-    Ok(Step::Event(st.moved(text.next, st.mode), k))
+    Ok(Step::Event(st.moved(text.next.at, st.mode), k))
 }
 
 // An instruction: the target and the content, after the octet k.
@@ -166,13 +166,13 @@ fn instruction_at(
     ensures { Meets s.now st n (lent t.old counts.old index.old records.old) result (lent t.new counts.new index.new records.new) (instruction_at link s.now k) }
 {
     let target = read_names::id(s, t, counts, index, OTHER_NCNAME, k + 1)?;
-    let content = value(s, t, counts, OTHER_STRING, target.next)?;
+    let content = value(s, t, counts, OTHER_STRING, target.next.at)?;
     let e = events::instruction(
         read_names::string_at(t, OTHER_NCNAME, target.value),
         content.value,
     );
     events::keep(records, n, k, e);
-    Ok(Step::Event(st.moved(content.next, st.mode), k))
+    Ok(Step::Event(st.moved(content.next.at, st.mode), k))
 }
 
 // A declaration at octet k, of an element whose attribute bit is a.
@@ -196,7 +196,7 @@ fn namespace_at(
         read_names::string_at(t, NAMESPACE_NAME, binding.value.namespace),
     );
     events::keep(records, n, k, e);
-    Ok(Step::Event(st.moved(binding.next, states::declaring(a)), k))
+    Ok(Step::Event(st.moved(binding.next.at, states::declaring(a)), k))
 }
 
 // A name that is read here: an element's, or an attribute's, and then its value.
@@ -218,7 +218,7 @@ fn named(
     if x.table == ELEMENT_NAME {
         return start_of(st, t, records, n, k, x.listing, name);
     }
-    let v = value(s, t, counts, ATTRIBUTE_VALUE, name.next)?;
+    let v = value(s, t, counts, ATTRIBUTE_VALUE, name.next.at)?;
     keep_named(
         t,
         records,
@@ -229,7 +229,7 @@ fn named(
         Kind::Attribute,
         v.value,
     );
-    Ok(Step::Event(st.moved(v.next, State::LISTED), k))
+    Ok(Step::Event(st.moved(v.next.at, State::LISTED), k))
 }
 
 // A child that is no element by its first octet, k: 10 chunk, which is inside elements only, E1 instruction, E2 comment.

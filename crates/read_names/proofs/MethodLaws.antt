@@ -42,6 +42,10 @@ module _ (bit : ℕ) (from : 5 ≤ bit) (to : bit ≤ 7) where
   by_bit : (P : ℕ → Type 0) → P 5 → P 6 → P 7 → P bit
   by_bit P a b c = by_number_lem P 5 3 (a, (b, (c, tt))) bit from (omega arith)
 
+  -- what an octet has above the length's bits is no more than an octet
+  pub low_few : (b : ℕ) → b < 256 → b / 2 ^ (9 - bit) < 256
+  low_few b h = by_bit (λ (k : ℕ). b / 2 ^ (9 - k) < 256) (omega arith) (omega arith) (omega arith)
+
   -- the number, from two octets a and b
   number_is : (a b : ℕ) → b < 256 → (bits_of a bit 8 * 2 ^ (bit - 1) % 4294967296 ≡ a % 2 ^ (9 - bit) * 2 ^ (bit - 1)) × (a % 2 ^ (9 - bit) * 2 ^ (bit - 1) + b / 2 ^ (9 - bit) < 256)
   number_is a b h =

@@ -116,7 +116,7 @@ number_held s c w x t k tidy low high m is a ea = rw (ea, ← is) (by m is)
         (case (count_of (unlisted c) t) r.value
         (λ l. rw (lt-leb _ _ l) (refl, (tidy.ten, tidy.room)))
         (λ l. rw (le-leb _ _ l, name_in_table s c w x tidy t r.value low high g.0 l) (
-          ap (λ (z : Parts). S.got z r.next (vocabulary (unlisted c) w)) (name_is c w (triple_at w (768 * t + 3 * (r.value - 1))) (name_ranged s c w x tidy t r.value low high g.0 l)),
+          ap (λ (z : Parts). S.got z r.next.at (vocabulary (unlisted c) w)) (name_is c w (triple_at w (768 * t + 3 * (r.value - 1))) (name_ranged s c w x tidy t r.value low high g.0 l)),
           (record { tidy = tidy; within = g.3; grown = grown_none c w }, l),
         )))
 
@@ -245,7 +245,7 @@ SameNames v (S.refused n p) = Unit {0}
 
 module _ {B : Type 0} (P : S.Got B → Type 0) where
   numbered : (a : Result (Read ℕ) Fault) (f : ℕ → ℕ → S.Got B) → ((n next : ℕ) → P (f n next)) → ((n p : ℕ) → P (S.refused n p)) → P (S.number a f)
-  numbered (Ok r) f g h = g r.value r.next
+  numbered (Ok r) f g h = g r.value r.next.at
   numbered (Err r) f g h = h (refusal_number r.refusal) r.at
 
 same_names_lem : (s : List ℕ) (t : StringTable) (k : ℕ) (v : Vocabulary Located) → SameNames v (id_seen (id_at link s t k v))
@@ -399,7 +399,7 @@ module _ (q : NameLayout) (s : List ℕ) (b k : ℕ) (v : Vocabulary Located) (p
           where
             by : (a : Result (Read ℕ) Fault) → Says u t (record { prefix = x₁.text; namespace = x₂.text; local = x₃.text }) a
                 → seen_name t a d u ≡ named (record { prefix = x₁.text; namespace = x₂.text; local = x₃.text }) (seen_number a d u)
-            by (Ok r) e = ap (λ (y : Parts). S.got y r.next (vocabulary (unlisted d) u)) e
+            by (Ok r) e = ap (λ (y : Parts). S.got y r.next.at (vocabulary (unlisted d) u)) e
             by (Err f) e = refl
 
 pub positive : (v : List ℕ) (t : ℕ) (x : Triple) (r : Result (Read ℕ) Fault) → NewRow v t x r → Positive r

@@ -45,7 +45,7 @@ module _ (s : List ℕ) where
   number-within fs max bit k f h g = go (field_at fs max bit s k) refl
     where
       go : (a : Result (Read ℕ) Faults.Fault) → field_at fs max bit s k ≡ a → Within (number a f)
-      go (Ok r) e = let b = field_got max s k fs bit e in g r.value r.next (omega arith)
+      go (Ok r) e = let b = field_got max s k fs bit e in g r.value r.next.at (omega arith)
       go (Err r) e = let b = field_refused max s k fs bit e in omega arith
 
   -- ---- strings
@@ -97,7 +97,7 @@ module _ (s : List ℕ) where
     formed_within : (form : StringForm) (t : StringTable) (k : ℕ) (added : Bool) (r : Result (Read ℕ) Faults.Fault) (v : Vocabulary Located) → k ≤ length s → Judged r → Within (formed_at ver form s t k added r v)
     unfolding formed_at
     formed_within form t k added (Ok r) v h j =
-        spelling-within form k r.next r.value _ h λ e. tests Within (not added || ltb (length (strings v t)) ver.entries) _ _ (λ _. e) (λ _. omega arith)
+        spelling-within form k r.next.at r.value _ h λ e. tests Within (not added || ltb (length (strings v t)) ver.entries) _ _ (λ _. e) (λ _. omega arith)
     formed_within form t k added (Err f) v h j = j
 
     pub spelled_within : (bit : ℕ) (t : StringTable) (k : ℕ) (added : Bool) (v : Vocabulary Located) → k ≤ length s → Within (spelled_at ver bit s t k added v)

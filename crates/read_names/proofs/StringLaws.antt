@@ -70,7 +70,7 @@ length_given s k bit (Ok r) e = length-read s k bit r e
 length_given s k bit (Err f) e = tt
 
 module _ (form : StringForm) (s : List ℕ) (k : ℕ) (r : Read ℕ) where
-  pub judged_text : r.next + r.value ≤ length s → is_text (octets_of s (stretch form r.next r.value)) ≡ true → Ok tt ≡ judged_of form s k r
+  pub judged_text : r.next.at + r.value ≤ length s → is_text (octets_of s (stretch form r.next.at r.value)) ≡ true → Ok tt ≡ judged_of form s k r
   unfolding judged_of
   judged_text h q = rw (le-leb _ _ h, q)
 
@@ -79,9 +79,9 @@ module _ (form : StringForm) (s : List ℕ) (k : ℕ) (r : Read ℕ) where
   judged (Ok u) b = b
   judged (Err f) b = refused (refusal_number f.refusal) f.at
 
-  spelling_judged : {C : Type 0} (b : Got C) → spelling form s k r.next r.value b ≡ judged (judged_of form s k r) b
+  spelling_judged : {C : Type 0} (b : Got C) → spelling form s k r.next.at r.value b ≡ judged (judged_of form s k r) b
   unfolding spelling judged_of
-  spelling_judged b = by (leb (r.next + r.value) (length s)) (is_text (octets_of s (stretch form r.next r.value)))
+  spelling_judged b = by (leb (r.next.at + r.value) (length s)) (is_text (octets_of s (stretch form r.next.at r.value)))
     where
       by : (t u : Bool) → pick t (pick u b (refused 9 k)) (refused 2 k) ≡ judged (pick t (pick u (Ok tt) (F.refused Text k)) (F.refused Truncated k)) b
       by true true = refl
@@ -89,17 +89,17 @@ module _ (form : StringForm) (s : List ℕ) (k : ℕ) (r : Read ℕ) where
       by false u = refl
 
   abbrev Lies : Result (Unit {0}) Fault → Type 0
-  Lies (Ok u) = r.next + r.value ≤ length s
+  Lies (Ok u) = r.next.at + r.value ≤ length s
   Lies (Err f) = Unit {0}
 
   judged_lies : Lies (judged_of form s k r)
   unfolding judged_of
   judged_lies =
-      tests Lies (leb (r.next + r.value) (length s)) _ _
-      (λ t. tests Lies (is_text (octets_of s (stretch form r.next r.value))) _ _ (λ u. leb-true _ _ t) (λ u. tt))
+      tests Lies (leb (r.next.at + r.value) (length s)) _ _
+      (λ t. tests Lies (is_text (octets_of s (stretch form r.next.at r.value))) _ _ (λ u. leb-true _ _ t) (λ u. tt))
       (λ t. tt)
 
-  pub judged_within : Ok tt ≡ judged_of form s k r → r.next + r.value ≤ length s
+  pub judged_within : Ok tt ≡ judged_of form s k r → r.next.at + r.value ≤ length s
   judged_within e = rw (← e) at judged_lies
 
 -- ---- an entry as a string of an event
@@ -175,7 +175,7 @@ module _ (count k : ℕ) (r : Read ℕ) where
   held_positive h = tests Positive (leb r.value count) _ _ (λ l. h) (λ l. tt)
 
 module _ (w : List ℕ) (t count k : ℕ) (r : Read ℕ) where
-  pub said_entry : (x : EventString) → r.value ≤ count → x ≡ event_string (string_at (table_of t) w (768 * t + 3 * (r.value - 1))) → F.got x r.next ≡ said_of w t count k r
+  pub said_entry : (x : EventString) → r.value ≤ count → x ≡ event_string (string_at (table_of t) w (768 * t + 3 * (r.value - 1))) → F.got x r.next.at ≡ said_of w t count k r
   unfolding said_of
   said_entry x l q = rw (le-leb _ _ l, q)
 
@@ -301,7 +301,7 @@ module _ (s c w x : List ℕ) (t k : ℕ) (tidy : Tidy s c w x) (small : t < 8) 
             let len = length-strings (unlisted c) w t small in
             case (count_of (unlisted c) t) r.value
             (λ l. rw (len, lt-leb _ _ l) (refl, rooms, tt))
-            (λ l. rw (len, le-leb _ _ l, string_nth (unlisted c) w t (r.value - 1) empty small (omega arith), string_there w t r.value _ g.0 refl) (refl, (stays r.next g.3, l), g.0))
+            (λ l. rw (len, le-leb _ _ l, string_nth (unlisted c) w t (r.value - 1) empty small (omega arith), string_there w t r.value _ g.0 refl) (refl, (stays r.next.at g.3, l), g.0))
 
     held_string : FieldAnswers s c w (said_by w t (count_of (unlisted c) t) k m) c w x (number m entry_of)
     unfolding said_of
@@ -314,7 +314,7 @@ module _ (s c w x : List ℕ) (t k : ℕ) (tidy : Tidy s c w x) (small : t < 8) 
             let len = length-strings (unlisted c) w t small in
             case (count_of (unlisted c) t) r.value
             (λ l. rw (len, lt-leb _ _ l) (refl, rooms))
-            (λ l. rw (len, le-leb _ _ l, string_nth (unlisted c) w t (r.value - 1) empty small (omega arith)) (refl, stays r.next g.3))
+            (λ l. rw (len, le-leb _ _ l, string_nth (unlisted c) w t (r.value - 1) empty small (omega arith)) (refl, stays r.next.at g.3))
 
   -- ---- C.13
   abbrev as_id : ℕ → ℕ → S.Got IdRead
@@ -334,36 +334,36 @@ module _ (s c w x : List ℕ) (t k : ℕ) (tidy : Tidy s c w x) (small : t < 8) 
 
   -- its length was read, r; and what became of its octets
   module _ (low : get_or s k 0 < 0x80) (r : Read ℕ) (read : Ok r ≡ field_at (lengths 2) no_top 2 s k) where
-    id_spelled : id_at link s (table_of t) k here ≡ spelling Utf8 s k r.next r.value (as_id r.value r.next)
+    id_spelled : id_at link s (table_of t) k here ≡ spelling Utf8 s k r.next.at r.value (as_id r.value r.next.at)
     unfolding id_at
     id_spelled = rw (lt-ltb _ _ low, ← read)
 
-    pub fresh_past : length s < r.next + r.value → IdAnswers s c w t (F.refused Truncated k) c w x by_id
+    pub fresh_past : length s < r.next.at + r.value → IdAnswers s c w t (F.refused Truncated k) c w x by_id
     unfolding spelling
     fresh_past h = rw (id_spelled, lt-leb _ _ h) (refl, rooms, tt)
 
-    module _ (h : r.next + r.value ≤ length s) where
-      pub fresh_bad : is_text (octets_of s (stretch Utf8 r.next r.value)) ≡ false → IdAnswers s c w t (F.refused Text k) c w x by_id
+    module _ (h : r.next.at + r.value ≤ length s) where
+      pub fresh_bad : is_text (octets_of s (stretch Utf8 r.next.at r.value)) ≡ false → IdAnswers s c w t (F.refused Text k) c w x by_id
       unfolding spelling
       fresh_bad z = rw (id_spelled, le-leb _ _ h, z) (refl, rooms, tt)
 
       -- they are text, and v and y are the words of the tables and the index then
-      module _ (text : is_text (octets_of s (stretch Utf8 r.next r.value)) ≡ true) (v y : List ℕ) where
-        id_text : id_at link s (table_of t) k here ≡ as_id r.value r.next
+      module _ (text : is_text (octets_of s (stretch Utf8 r.next.at r.value)) ≡ true) (v y : List ℕ) where
+        id_text : id_at link s (table_of t) k here ≡ as_id r.value r.next.at
         unfolding spelling
         id_text = rw (id_spelled, le-leb _ _ h, text)
 
-        there : holds (map (octets_of s) table) (octets_of s (stretch Utf8 r.next r.value)) ≡ listed s w t (get_or c t 0) r.next r.value
+        there : holds (map (octets_of s) table) (octets_of s (stretch Utf8 r.next.at r.value)) ≡ listed s w t (get_or c t 0) r.next.at r.value
         there = rw (strings_are_lem (unlisted c) w t small, count_at c tidy.ten t) (holds-number _ _)
 
-        pub new_not : (e : Refusal) → NewString s t (get_or c t 0) r.next r.value w x (Err e) v y → IdAnswers s c w t (F.refused e k) c v y by_id
+        pub new_not : (e : Refusal) → NewString s t (get_or c t 0) r.next.at r.value w x (Err e) v y → IdAnswers s c w t (F.refused e k) c v y by_id
         unfolding link
         new_not Repeat a = rw (a.1, id_text, there, a.0) (refl, rooms, tt)
         new_not Full a = rw (a.2, id_text, there, a.0, length-strings (unlisted c) w t small, count_at c tidy.ten t, le-ltb _ _ a.1) (refl, rooms, tt)
         new_not e a = absurd a
 
-        pub new_done : NewString s t (get_or c t 0) r.next r.value w x (Ok tt) v y
-            → IdAnswers s c w t (F.got (get_or c t 0 + 1) (r.next + r.value)) (set c t (get_or c t 0 + 1)) v y by_id
+        pub new_done : NewString s t (get_or c t 0) r.next.at r.value w x (Ok tt) v y
+            → IdAnswers s c w t (F.got (get_or c t 0 + 1) (r.next.at + r.value)) (set c t (get_or c t 0 + 1)) v y by_id
         unfolding link
         new_done a =
             let l = a.1 in
@@ -371,8 +371,8 @@ module _ (s c w x : List ℕ) (t k : ℕ) (tidy : Tidy s c w x) (small : t < 8) 
             let q = rw a.2.words at a.2 in
             let more = (one_more-words c tidy.ten t (omega arith)).here in
             rw (a.2.words, id_text, there, a.0, length-strings (unlisted c) w t small, count_at c tidy.ten t, lt-ltb _ _ l, ← add-one (get_or c t 0)) (
-              rw (← new_string s c w x t Utf8 r.next r.value tidy small (λ _. refl) l h some, ← is_added s c w x t Utf8 r.next r.value tidy small (λ _. refl) l h some) refl,
-              (left_entered s c w x t Utf8 r.next r.value tidy small (λ _. refl) l h some y q, omega arith),
+              rw (← new_string s c w x t Utf8 r.next.at r.value tidy small (λ _. refl) l h some, ← is_added s c w x t Utf8 r.next.at r.value tidy small (λ _. refl) l h some) refl,
+              (left_entered s c w x t Utf8 r.next.at r.value tidy small (λ _. refl) l h some y q, omega arith),
               omega arith,
             )
 
@@ -417,7 +417,7 @@ module _ (s c w x : List ℕ) (t k : ℕ) (tidy : Tidy s c w x) (small : t < 8) 
     abbrev as_string : Bool → S.Got StringRead
     as_string add =
         pick (not add || ltb (length table) link.entries)
-        (got (record { string = stretch form r.next r.value; how = spelled form add }) (r.next + r.value) (keeping add here (table_of t) (stretch form r.next r.value)))
+        (got (record { string = stretch form r.next.at r.value; how = spelled form add }) (r.next.at + r.value) (keeping add here (table_of t) (stretch form r.next.at r.value)))
         (refused 12 k)
 
     string_formed : formed_at link form s (table_of t) k add (Ok r) here ≡ judged form s k r (judged_of form s k r) (as_string add)
@@ -428,18 +428,18 @@ module _ (s c w x : List ℕ) (t k : ℕ) (tidy : Tidy s c w x) (small : t < 8) 
     formed_not f e = rw (string_formed, ← e) (refl, rooms)
 
     pub formed_added : 5 ≤ t → Ok tt ≡ judged_of form s k r → (a : Result (Read EventString) Fault) (d v : List ℕ)
-        → (a ≡ added_of c t k form r.next r.value add) × (d ≡ added_counts c t add) × (v ≡ added_words c w t form r.next r.value add) → FieldAnswers s c w a d v x (by_formed form add (Ok r))
+        → (a ≡ added_of c t k form r.next.at r.value add) × (d ≡ added_counts c t add) × (v ≡ added_words c w t form r.next.at r.value add) → FieldAnswers s c w a d v x (by_formed form add (Ok r))
     unfolding added_of added_counts added_words link
     formed_added l e a d v q = rw (q.0, q.1, q.2, string_formed, ← e) (by add)
       where
-        by : (b : Bool) → FieldAnswers s c w (added_of c t k form r.next r.value b) (added_counts c t b) (added_words c w t form r.next r.value b) x (string_seen (as_string b))
-        by false = (refl, stays (r.next + r.value) (judged_within form s k r e))
+        by : (b : Bool) → FieldAnswers s c w (added_of c t k form r.next.at r.value b) (added_counts c t b) (added_words c w t form r.next.at r.value b) x (string_seen (as_string b))
+        by false = (refl, stays (r.next.at + r.value) (judged_within form s k r e))
         by true =
             let h = judged_within form s k r e in
             let may = holds_any t form l in
             rw (length-strings (unlisted c) w t small, count_at c tidy.ten t)
             (case (get_or c t 0) 256
-            (λ u. rw (lt-ltb _ _ u, ← is_added s c w x t form r.next r.value tidy small may u h read.0) (refl, left_elsewhere s c w x t form r.next r.value tidy small may u h read.0 l))
+            (λ u. rw (lt-ltb _ _ u, ← is_added s c w x t form r.next.at r.value tidy small may u h read.0) (refl, left_elsewhere s c w x t form r.next.at r.value tidy small may u h read.0 l))
             (λ u. rw (le-ltb _ _ u) (refl, rooms)))
 
   -- by its format f, the two bits before the length's in the first octet o

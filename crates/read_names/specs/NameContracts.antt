@@ -24,7 +24,7 @@ new_name ver t x k next v =
     (pick (ltb (length (names v t)) ver.entries) (S.got (suc (length (names v t))) next (adding_name v t x)) (S.refused FULL k))
 
 abbrev pub seen_number : Result (Read ℕ) Fault → (d v : Words) → S.Got ℕ
-seen_number (Ok r) d v = S.got r.value r.next (vocabulary (unlisted d) v)
+seen_number (Ok r) d v = S.got r.value r.next.at (vocabulary (unlisted d) v)
 seen_number (Err e) d v = S.refused (refusal_number e.refusal) e.at
 
 -- The row that has the number is the triple's.

@@ -64,11 +64,11 @@ pub record Seen : Type 0 where
   pub number : ℕ
 
 abbrev pub seen_id : (table : ℕ) → Result (Read ℕ) Fault → (d v : Words) → S.Got Seen
-seen_id table (Ok r) d v = S.got (record { text = event_string_at v table r.value; number = r.value }) r.next (vocabulary (unlisted d) v)
+seen_id table (Ok r) d v = S.got (record { text = event_string_at v table r.value; number = r.value }) r.next.at (vocabulary (unlisted d) v)
 seen_id table (Err e) d v = S.refused (refusal_number e.refusal) e.at
 
 abbrev pub IdLeft : Octets → (c w : Words) → (table : ℕ) → Result (Read ℕ) Fault → (d v : Words) → Octets → Type 0
-IdLeft s c w table (Ok r) d v x = Left s c w r.next d v x × (r.value ≤ count_of (unlisted d) table)
+IdLeft s c w table (Ok r) d v x = Left s c w r.next.at d v x × (r.value ≤ count_of (unlisted d) table)
 IdLeft s c w table (Err e) d v x = Rooms d v
 
 -- Numbers start from 1.
@@ -86,11 +86,11 @@ optional_seen (S.refused n p) = S.refused n p
 
 -- ---- a string that has no number of its own
 abbrev pub seen_field : Result (Read EventString) Fault → (d v : Words) → S.Got EventString
-seen_field (Ok r) d v = S.got r.value r.next (vocabulary (unlisted d) v)
+seen_field (Ok r) d v = S.got r.value r.next.at (vocabulary (unlisted d) v)
 seen_field (Err e) d v = S.refused (refusal_number e.refusal) e.at
 
 abbrev pub FieldLeft : Octets → (c w : Words) → Result (Read EventString) Fault → (d v : Words) → Octets → Type 0
-FieldLeft s c w (Ok r) d v x = Left s c w r.next d v x
+FieldLeft s c w (Ok r) d v x = Left s c w r.next.at d v x
 FieldLeft s c w (Err e) d v x = Rooms d v
 
 abbrev pub string_seen : S.Got StringRead → S.Got EventString
@@ -99,7 +99,7 @@ string_seen (S.refused n p) = S.refused n p
 
 -- ---- a name, by its number
 abbrev pub seen_name : (table : ℕ) → Result (Read ℕ) Fault → (d v : Words) → S.Got Parts
-seen_name table (Ok r) d v = S.got (name_strings_at v table r.value) r.next (vocabulary (unlisted d) v)
+seen_name table (Ok r) d v = S.got (name_strings_at v table r.value) r.next.at (vocabulary (unlisted d) v)
 seen_name table (Err e) d v = S.refused (refusal_number e.refusal) e.at
 
 abbrev pub name_seen : S.Got NameRead → S.Got Parts
@@ -109,11 +109,11 @@ name_seen (S.refused n p) = S.refused n p
 -- ---- a declaration, which has no local name
 abbrev pub seen_declared : Result (Read Binding) Fault → (d v : Words) → S.Got Parts
 seen_declared (Ok r) d v =
-    S.got (record { prefix = event_string_at v 0 r.value.prefix; namespace = event_string_at v 1 r.value.namespace; local = Absent }) r.next (vocabulary (unlisted d) v)
+    S.got (record { prefix = event_string_at v 0 r.value.prefix; namespace = event_string_at v 1 r.value.namespace; local = Absent }) r.next.at (vocabulary (unlisted d) v)
 seen_declared (Err e) d v = S.refused (refusal_number e.refusal) e.at
 
 abbrev pub DeclaredLeft : Octets → (c w : Words) → Result (Read Binding) Fault → (d v : Words) → Octets → Type 0
-DeclaredLeft s c w (Ok r) d v x = Left s c w r.next d v x × (r.value.prefix ≤ 256) × (r.value.namespace ≤ 256)
+DeclaredLeft s c w (Ok r) d v x = Left s c w r.next.at d v x × (r.value.prefix ≤ 256) × (r.value.namespace ≤ 256)
 DeclaredLeft s c w (Err e) d v x = Rooms d v
 
 abbrev pub declared_seen : S.Got DeclaredRead → S.Got Parts

@@ -22,12 +22,12 @@ use Rattle.read_names.specs.Promises.{Tidy, seen_field, string_seen, FieldLeft}
 
 -- A length that was read is not 0, and behind it is a place of the document, or its end.
 abbrev pub LengthRead : Octets → Result (Read ℕ) Fault → Type 0
-LengthRead s (Ok r) = (1 ≤ r.value) × (r.next ≤ length s)
+LengthRead s (Ok r) = (1 ≤ r.value) × (r.next.at ≤ length s)
 LengthRead s (Err f) = Unit {0}
 
 -- The octets of a string whose length was read at k: they are there, or not (2), and are text, or not (9).
 unfoldable pub judged_of : StringForm → Octets → ℕ → Read ℕ → Result (Unit {0}) Fault
-judged_of form s k r = pick (leb (r.next + r.value) (length s)) (pick (is_text (octets_of s (stretch form r.next r.value))) (Ok tt) (refused Text k)) (refused Truncated k)
+judged_of form s k r = pick (leb (r.next.at + r.value) (length s)) (pick (is_text (octets_of s (stretch form r.next.at r.value))) (Ok tt) (refused Text k)) (refused Truncated k)
 
 -- A number that was read at k, in a table of `count` entries, or one beyond them (10).
 unfoldable pub held_of : (count k : ℕ) → Read ℕ → Result (Read ℕ) Fault
@@ -40,7 +40,7 @@ held_by count k (Err f) = Err f
 
 -- The string of the entry that has the number, where there is one.
 unfoldable pub said_of : Words → (table count k : ℕ) → Read ℕ → Result (Read EventString) Fault
-said_of w table count k r = pick (leb r.value count) (got (event_string (string_at (table_of table) w (768 * table + 3 * (r.value - 1)))) r.next) (refused Index k)
+said_of w table count k r = pick (leb r.value count) (got (event_string (string_at (table_of table) w (768 * table + 3 * (r.value - 1)))) r.next.at) (refused Index k)
 
 -- The octets at a place, one entry more where they are added; or no room in the table (12). And the words of the counts and of the tables then.
 unfoldable pub added_of : Words → (table k : ℕ) → StringForm → (place size : ℕ) → Bool → Result (Read EventString) Fault

@@ -29,7 +29,7 @@ then (got b next v) f = f b next v
 then (refused n p) f = refused n p
 
 abbrev pub number : {C : Type 0} → Result (Read ℕ) Fault → (ℕ → ℕ → Got C) → Got C
-number (Ok r) f = f r.value r.next
+number (Ok r) f = f r.value r.next.at
 number (Err e) f = refused (refusal_number e.refusal) e.at
 
 -- n octets from `next` on, in a form: they pass the end (2), are no text (9).

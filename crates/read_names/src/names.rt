@@ -92,7 +92,10 @@ fn triple(
     }
     index::enter_name(t, index, table, n, x.a, x.b, x.c, 0);
     counts[table] = n + 1;
-    Ok(Read { value: n + 1, next })
+    Ok(Read {
+        value: n + 1,
+        next: Cursor { at: next },
+    })
 }
 
 // A name in parts, its p and n in the octet b; table 8 is the elements', 9 the attributes'.
@@ -117,12 +120,12 @@ pub fn in_parts(
         return first;
     };
     let there = bits(b, 8, 8) == 1;
-    let second = optional(there, s, t, counts, index, NAMESPACE_NAME, prefix.next);
+    let second = optional(there, s, t, counts, index, NAMESPACE_NAME, prefix.next.at);
     let Ok(namespace) = second else {
         return second;
     };
     let locals = counts[LOCAL_NAME];
-    let third = id(s, t, counts, index, LOCAL_NAME, namespace.next);
+    let third = id(s, t, counts, index, LOCAL_NAME, namespace.next.at);
     let Ok(local) = third else {
         return third;
     };
@@ -131,7 +134,7 @@ pub fn in_parts(
         b: namespace.value,
         c: local.value,
     };
-    triple(t, counts, index, table, at, local.next, x, locals)
+    triple(t, counts, index, table, at, local.next.at, x, locals)
 }
 
 // A name by number.
@@ -187,7 +190,7 @@ pub fn declared(
     }
     let prefix = optional(2 <= bits(b, 7, 8), s, t, counts, index, PREFIX, at + 1)?;
     let there = bits(b, 8, 8) == 1;
-    let namespace = optional(there, s, t, counts, index, NAMESPACE_NAME, prefix.next)?;
+    let namespace = optional(there, s, t, counts, index, NAMESPACE_NAME, prefix.next.at)?;
     Ok(Read {
         value: Binding {
             prefix: prefix.value,

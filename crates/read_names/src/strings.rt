@@ -31,7 +31,7 @@ fn judge(s: &[u8], at: usize, form: StringForm, len: Read<u64>) -> Result<(), Fa
     requires { LengthRead s.now (Ok len) }
     ensures { result ≡ judged_of form s.now at len }
 {
-    let first = len.next;
+    let first = len.next.at;
     let size = len.value as usize;
     if s.len() - first < size {
         return Err(Refusal::Truncated.at(at));
@@ -92,7 +92,7 @@ fn fresh(
     ensures { ReadsId s.now counts.old t.old table result counts.new t.new index.new (id_at link s.now (table_of table) at) }
 {
     let len = Cursor { at }.length(s, 2)?;
-    let first = len.next;
+    let first = len.next.at;
     let size = len.value as usize;
     if s.len() - first < size {
         return Err(Refusal::Truncated.at(at));
@@ -108,7 +108,7 @@ fn fresh(
     counts[table] = count + 1;
     Ok(Read {
         value: count + 1,
-        next: first + size,
+        next: Cursor { at: first + size },
     })
 }
 
@@ -147,7 +147,10 @@ pub fn optional(
     if there {
         return id(s, t, counts, index, table, at);
     }
-    Ok(Read { value: 0, next: at })
+    Ok(Read {
+        value: 0,
+        next: Cursor { at },
+    })
 }
 
 // The string of the entry that has a number, which was read at a place.
@@ -196,7 +199,7 @@ fn added(
     }
     Ok(Read {
         value: EventString::Stretch(form, first, len),
-        next: place + size,
+        next: Cursor { at: place + size },
     })
 }
 
@@ -217,7 +220,7 @@ pub fn formed(
     let len = len?;
     judge(s, at, form, len)?;
     let size = len.value as usize;
-    added(t, counts, table, at, form, len.next, size, add)
+    added(t, counts, table, at, form, len.next.at, size, add)
 }
 
 // The eight bits of the alphabet's or algorithm's number less 1, which stand before the length.
@@ -269,7 +272,10 @@ fn method_behind(
     if !clean {
         return Err(Refusal::Padding.at(at));
     }
-    Ok(Read { value: n, next })
+    Ok(Read {
+        value: n,
+        next: Cursor { at: next },
+    })
 }
 
 // C.19, C.20 behind that number: a length from a bit of the second octet, coded 0, 10 or 11. `half` is as many values as the bits behind 10 and 11 have.
@@ -346,7 +352,7 @@ pub fn value(
     if o == 0xFF {
         return Ok(Read {
             value: EventString::Empty,
-            next: at + 1,
+            next: Cursor { at: at + 1 },
         });
     }
     if bits(o, 1, 1) == 1 {

@@ -177,7 +177,7 @@ module _ (s : Octets) (st : State) (a : Lent) (k : ℕ) (m : st.mode ≡ 0) wher
 
 -- ---- numbers of one octet or two
 module _ (s : Octets) (at b ones : ℕ) (h : at + 1 < length s) (small : ones ≤ 64) where
-  pub row_one : {value : ℕ} → b < ones → value ≡ b → ReadsShort s at b ones (record { value = value; next = at + 1 })
+  pub row_one : {value : ℕ} → b < ones → value ≡ b → ReadsShort s at b ones (record { value = value; next = record { at = at + 1 } })
   unfolding value_from sizes_in rooms_in
   row_one l e bit f u o q =
       let n : 1 + b ≡ b + 1 = omega arith in
@@ -187,7 +187,7 @@ module _ (s : Octets) (at b ones : ℕ) (h : at + 1 < length s) (small : ones �
       ∙ behind_got s at b 0 1 (2 ^ (8 - bit)) top b (omega arith) refl (omega arith) (omega arith)))
 
   pub row_two : {value : ℕ} → ones ≤ b → b < ones + ones / 4 → get_or s (at + 1) 0 < 256 → value ≡ 256 * (b - ones) + get_or s (at + 1) 0 + ones
-      → ReadsShort s at b ones (record { value = value; next = at + 2 })
+      → ReadsShort s at b ones (record { value = value; next = record { at = at + 2 } })
   unfolding value_from sizes_in rooms_in
   row_two l g o e bit f u z q =
       let w = number_values bit u in
@@ -200,7 +200,7 @@ module _ (s : Octets) (at b ones : ℕ) (h : at + 1 < length s) (small : ones �
 -- ---- what is read there, with any index
 module _ (s c t : List ℕ) (at o : ℕ) where
   read-start : (x : Read ℕ) → o ≡ get_or s at 0 % 2 ^ (9 - 3) → ReadsShort s at o 0x20 x → x.value < get_or c 8 0 → (i : Octets) → Tidy s c t i
-      → (seen_name 8 (got (x.value + 1) x.next) c t ≡ name_seen (numbered_at link (layout_of 8) s at (vocabulary (unlisted c) t))) × IdLeft s c t 8 (got (x.value + 1) x.next) c t i
+      → (seen_name 8 (got (x.value + 1) x.next.at) c t ≡ name_seen (numbered_at link (layout_of 8) s at (vocabulary (unlisted c) t))) × IdLeft s c t 8 (got (x.value + 1) x.next.at) c t i
   read-start x b q h i tidy =
       number_held s c t i 8 at tidy (omega arith) (omega arith) _ (sym (q 3 (omega arith) (omega arith) refl b) ∙ element_number 8 refl s at) _
       (held_entry _ at (record { value = x.value + 1; next = x.next }) (rw (count_at c tidy.ten 8) (omega arith)))
@@ -211,7 +211,7 @@ ReadsText s c t at v next c' t' x = FieldAnswers s c t (got v next) c' t' x (str
 
 module _ (s c t : List ℕ) (at o : ℕ) (e : o ≡ get_or s at 0) where
   read_chunk : (x : Read ℕ) → 0xA0 ≤ o → o < 0xB4 → ReadsShort s at (o - 0xA0) 0x10 x → x.value < get_or c 6 0 → (i : Octets) → Tidy s c t i
-      → ReadsText s c t at (event_string (string_at (table_of 6) t (768 * 6 + 3 * (x.value + 1 - 1)))) x.next c t i
+      → ReadsText s c t at (event_string (string_at (table_of 6) t (768 * 6 + 3 * (x.value + 1 - 1)))) x.next.at c t i
   read_chunk x a l q h i tidy =
       let b : o - 0xA0 ≡ get_or s at 0 % 2 ^ (9 - 4) = omega arith in
       chunk_held s c t i 6 at tidy (omega arith) o e (omega arith) (omega arith) 1 (omega arith) refl _ (sym (q 4 (omega arith) (omega arith) refl b)) _
@@ -222,13 +222,13 @@ module _ (s c t : List ℕ) (at o : ℕ) (e : o ≡ get_or s at 0) where
   spelled_bit l h z = omega arith
 
   -- b is its bits 5 and 6, a its add bit; its length is read, r, and its octets are text
-  read_spelled : {c' t' : Words} → 0x80 ≤ o → o < 0xA0 → {b : ℕ} → b ≡ o / 4 % 4 → b ≡ 0 → (r : Read ℕ) → Ok r ≡ field_at (lengths 7) no_top 7 s at → r.next + r.value ≤ length s
-      → is_text (take (r.next + r.value - r.next) (drop r.next s)) ≡ true → {a : ℕ} → a ≡ o / 16 % 2 → AddsChunk (Some tt) c t r.next r.value (eqb a 1) c' t' → (x : Octets) → Tidy s c t x
-      → ReadsText s c t at (Stretch Utf8 r.next r.value) (r.next + r.value) c' t' x
+  read_spelled : {c' t' : Words} → 0x80 ≤ o → o < 0xA0 → {b : ℕ} → b ≡ o / 4 % 4 → b ≡ 0 → (r : Read ℕ) → Ok r ≡ field_at (lengths 7) no_top 7 s at → r.next.at + r.value ≤ length s
+      → is_text (take (r.next.at + r.value - r.next.at) (drop r.next.at s)) ≡ true → {a : ℕ} → a ≡ o / 16 % 2 → AddsChunk (Some tt) c t r.next.at r.value (eqb a 1) c' t' → (x : Octets) → Tidy s c t x
+      → ReadsText s c t at (Stretch Utf8 r.next.at r.value) (r.next.at + r.value) c' t' x
   read_spelled {c' = c'} {t' = t'} l h {b = b} eb zb r em to text {a = a} ea adds x tidy =
-      let z : r.next + r.value - r.next ≡ r.value = omega arith in
-      let text' : is_text (octets_of s (stretch Utf8 r.next r.value)) ≡ true = rw (octets_stretch s Utf8 r.next r.value) (rw z at text) in
-      let read = got (Stretch Utf8 r.next r.value) (r.next + r.value) in
+      let z : r.next.at + r.value - r.next.at ≡ r.value = omega arith in
+      let text' : is_text (octets_of s (stretch Utf8 r.next.at r.value)) ≡ true = rw (octets_stretch s Utf8 r.next.at r.value) (rw z at text) in
+      let read = got (Stretch Utf8 r.next.at r.value) (r.next.at + r.value) in
       chunk_spelled s c t x 6 at tidy (omega arith) o e l (omega arith) (o / 32 % 2) refl (spelled_bit l h) a ea read c' t'
       (spelled_utf8 s c t x 6 at tidy (omega arith) 7 (eqb a 1) (omega arith) o b e eb (Ok r) read c' t' zb em
       (formed_added s c t x 6 at tidy (omega arith) Utf8 (eqb a 1) r (length-read s at 7 r em) (omega arith) (judged_text Utf8 s at r to text') read c' t' (adds at)))
@@ -237,7 +237,7 @@ module _ (s c t : List ℕ) (at o : ℕ) (e : o ≡ get_or s at 0) where
 module _ {s : Octets} {t c r : Words} {y : Lane} (w : Stands s c t y) {r' : Words} (same : length r' ≡ length r) where
   pub takes_start : (o : ℕ) → o ≡ get_or s y.at 0 → (x : Read ℕ) → o < 0x28 → ReadsShort s y.at o 0x20 x → x.value < get_or c 8 0 → y.level < 32
       → r' ≡ kept r y.n y.at (named_record Start (name_strings_at t 8 (x.value + 1)) Absent)
-      → Takes s (y.n + 1) y t c r (Some (record { at = x.next; level = y.level + 1; n = y.n + 1 })) t c r'
+      → Takes s (y.n + 1) y t c r (Some (record { at = x.next.at; level = y.level + 1; n = y.n + 1 })) t c r'
   unfolding layout_of
   takes_start o e x l q h d k =
       let m = w.more in
@@ -271,7 +271,7 @@ module _ {s : Octets} {t c r : Words} {y : Lane} (w : Stands s c t y) {r' : Word
       let within = left.within in (
         record {
           onward = onward_one (record { index = w.tidied.index; tidy = left.tidy }) same λ x good.
-              met_by (chunk_more y.at (record { value = v; next = next }) good k q (read x good.tidy))
+              met_by (chunk_more y.at (record { value = v; next = record { at = next } }) good k q (read x good.tidy))
               (step_here s (in_lane y) (lent t c x r) y.at refl refl (omega arith) (omega arith)
               ∙ child_text s y.at (stand_of (in_lane y) (lent t c x r)).state (omega arith) (omega arith) (omega arith) (λ a. omega arith));
           inside = w.inside;
@@ -281,13 +281,13 @@ module _ {s : Octets} {t c r : Words} {y : Lane} (w : Stands s c t y) {r' : Word
       )
 
   pub takes_chunk : (o : ℕ) → o ≡ get_or s y.at 0 → (x : Read ℕ) → 0xA0 ≤ o → o < 0xB4 → ReadsShort s y.at (o - 0xA0) 0x10 x → x.value < get_or c 6 0 → r' ≡ kept r y.n y.at (chunk_record (event_string_at t 6 (x.value + 1)))
-      → Takes s (y.n + 1) y t c r (Some (record { at = x.next; level = y.level; n = y.n + 1 })) t c r'
+      → Takes s (y.n + 1) y t c r (Some (record { at = x.next.at; level = y.level; n = y.n + 1 })) t c r'
   takes_chunk o e x a l q h k =
       takes_text (omega arith) (omega arith) (read_chunk s c t y.at o e x a l q h) k (ap chunk_record (sym (string_there t 6 (x.value + 1) _ (omega arith) refl)))
 
   pub takes_spelled : {t' c' : Words} (o : ℕ) → o ≡ get_or s y.at 0 → 0x80 ≤ o → o < 0xA0 → {b : ℕ} → b ≡ o / 4 % 4 → b ≡ 0 → (i : Read ℕ) → Ok i ≡ field_at (lengths 7) no_top 7 s y.at
-      → i.next + i.value ≤ length s → is_text (take (i.next + i.value - i.next) (drop i.next s)) ≡ true → {a : ℕ} → a ≡ o / 16 % 2 → AddsChunk (Some tt) c t i.next i.value (eqb a 1) c' t'
-      → {f : Event} → r' ≡ kept r y.n y.at f → f ≡ chunk_record (Stretch Utf8 i.next i.value) → Takes s (y.n + 1) y t c r (Some (record { at = i.next + i.value; level = y.level; n = y.n + 1 })) t' c' r'
+      → i.next.at + i.value ≤ length s → is_text (take (i.next.at + i.value - i.next.at) (drop i.next.at s)) ≡ true → {a : ℕ} → a ≡ o / 16 % 2 → AddsChunk (Some tt) c t i.next.at i.value (eqb a 1) c' t'
+      → {f : Event} → r' ≡ kept r y.n y.at f → f ≡ chunk_record (Stretch Utf8 i.next.at i.value) → Takes s (y.n + 1) y t c r (Some (record { at = i.next.at + i.value; level = y.level; n = y.n + 1 })) t' c' r'
   takes_spelled o e l h eb zb i em to text ea adds k z = takes_text (omega arith) (omega arith) (read_spelled s c t y.at o e l h eb zb i em to text ea adds) k z
 
   pub takes_end : {e : Event} → get_or s y.at 0 ≡ 0xF0 → 2 ≤ y.level → get_or s (y.at + 1) 0 < 0xF0 → r' ≡ kept r y.n y.at e → e ≡ end_record
@@ -336,7 +336,7 @@ module _ (s : List ℕ) where
 
 -- a length that was read
 pub length_there : (s : List ℕ) (k : ℕ) {r : Answered (Read ℕ) Fault} {x : Read ℕ} → r ≡ field_at (lengths 7) no_top 7 s k → Some x ≡ result_ok r
-    → (Ok x ≡ field_at (lengths 7) no_top 7 s k) × (1 ≤ x.value) × (x.next ≤ length s)
+    → (Ok x ≡ field_at (lengths 7) no_top 7 s k) × (1 ≤ x.value) × (x.next.at ≤ length s)
 length_there s k {r} {x} e q = let i = of r q ∙ e in let l = length-read s k 7 x i in (i, l.0, l.1)
   where
     of : (r : Answered (Read ℕ) Fault) → Some x ≡ result_ok r → Ok x ≡ r

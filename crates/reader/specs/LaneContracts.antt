@@ -79,7 +79,7 @@ pub record Advances (s : Octets) (room left : ℕ) (st : State) (n : ℕ) (t c r
 abbrev pub ReadsShort : Octets → (at b ones : ℕ) → Read ℕ → Type 0
 ReadsShort s at b ones r =
     (bit : ℕ) → 1 ≤ bit → bit ≤ 6 → ones ≡ 2 ^ (8 - bit) → b ≡ get_or s at 0 % 2 ^ (9 - bit)
-    → field_at (numbers bit) top bit s at ≡ got (r.value + 1) r.next
+    → field_at (numbers bit) top bit s at ≡ got (r.value + 1) r.next.at
 
 -- A row more of chunks, where one is to be added, as the reading of a string says it at any place k; or no room for it.
 abbrev pub AddsChunk : Option (Unit {0}) → (c t : Words) → (place size : ℕ) → Bool → (c' t' : Words) → Type 0

@@ -43,12 +43,12 @@ fn row_at(s: &[u8], at: usize, b: u8, ones: u8) -> Read<u32>
     if b < ones {
         return Read {
             value: u32::from(b),
-            next: at + 1,
+            next: Cursor { at: at + 1 },
         };
     }
     Read {
         value: 256 * u32::from(b - ones) + u32::from(s[at + 1]) + u32::from(ones),
-        next: at + 2,
+        next: Cursor { at: at + 2 },
     }
 }
 
@@ -114,7 +114,7 @@ fn element(
     }
     keep_start(t, records, lane.n, lane.at, name.value);
     Some(Lane {
-        at: name.next,
+        at: name.next.at,
         level: lane.level + 1,
         n: lane.n + 1,
     })
@@ -138,7 +138,7 @@ fn chunk(
     }
     keep_chunk(t, records, lane.n, lane.at, string.value)?;
     Some(Lane {
-        at: string.next,
+        at: string.next.at,
         level: lane.level,
         n: lane.n + 1,
     })
@@ -209,7 +209,7 @@ fn spelled(
         return None;
     }
     let length = Cursor { at: lane.at }.length(s, 7).ok()?;
-    let place = length.next;
+    let place = length.next.at;
     let size = length.value as usize;
     if s.len() - place < size || !is_text(s, place, place + size) {
         return None;

@@ -45,7 +45,7 @@ module _ (s : Octets) where
   -- a number of which Q is told, then the rest
   pub on_told : {C : Type 0} (P : Got C → Type 0) → ((c p : ℕ) → Fault s c p → P (refused c p)) → (Q : ℕ → ℕ → Type 0) (a : Result (Read ℕ) NumFault) → Told s Q a
       → (f : ℕ → ℕ → Got C) → ((n next : ℕ) → Q n next → P (f n next)) → P (number a f)
-  on_told P nay Q (Num a) r f g = g a.value a.next r
+  on_told P nay Q (Num a) r f g = g a.value a.next.at r
   on_told P nay Q (NoNum e) r f g = nay (refusal_number e.refusal) e.at r
 
   pub on_number : {C : Type 0} (P : Got C → Type 0) → ((c p : ℕ) → Fault s c p → P (refused c p)) → (fs : List Form) (top base k : ℕ) (a : Result (Read ℕ) NumFault) → NumOk s fs top base k a

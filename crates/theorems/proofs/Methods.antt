@@ -100,7 +100,7 @@ behind-told s at x more low size top n next =
     test P (F.refused Truncated at) (λ e. absurd (not_number Truncated at n next e)) (ltb (at + more) (length s)) _
     λ t1. test P (F.refused Padding at) (λ e. absurd (not_number Padding at n next e)) (ltb (value_from s (at + 1) x more) size) _
     λ t2. test P (F.refused Range at) (λ e. absurd (not_number Range at n next e)) (leb (low + value_from s (at + 1) x more) top) _
-    λ t3 e. (ap (elim [ Num a ↦ a.value | NoNum f ↦ 0 ]) e, ap (elim [ Num a ↦ a.next | NoNum f ↦ 0 ]) e)
+    λ t3 e. (ap (elim [ Num a ↦ a.value | NoNum f ↦ 0 ]) e, ap (elim [ Num a ↦ a.next.at | NoNum f ↦ 0 ]) e)
 
 module _ (s : Octets) (bit f : ℕ) (l : 5 ≤ bit) (u : bit ≤ 7) (k : ℕ) where
   -- the length, read as any other

@@ -31,7 +31,7 @@ pub record NumRead (s : Octets) (fs : List Form) (top base k n next : ℕ) : Typ
 
 -- what is told of a number and the place behind it; or the refusal is a fault of the document
 abbrev pub Told : Octets → (ℕ → ℕ → Type 0) → Result (Read ℕ) NumFault → Type 0
-Told s Q (Num r) = Q r.value r.next
+Told s Q (Num r) = Q r.value r.next.at
 Told s Q (NoNum f) = Fault s (refusal_number f.refusal) f.at
 
 abbrev pub NumOk : Octets → List Form → ℕ → ℕ → ℕ → Result (Read ℕ) NumFault → Type 0
@@ -68,7 +68,7 @@ module _ (s : Octets) (bytes : (i : ℕ) → get_or s i 0 < 256) where
       let i : n ≡ suc a.v = omega arith in
       let before : n - 1 ≡ a.v = omega arith in
       let w : spell fs base n ≡ get_or s k 0 ∷ take m (drop (suc k) s) = spell_is fs base n ok (omega arith) ∙ ap (λ (x : ℕ). spell_in (shares fs) base x) before ∙ a.written ∙ ap₂ (λ (x y : ℕ). x ∷ take m (drop y s)) (sym z) one in
-      let nx : r.next ≡ suc k + m = omega arith in
+      let nx : r.next.at ≡ suc k + m = omega arith in
       let lt : length (take m (drop (suc k) s)) ≡ m = length-take-le m (drop (suc k) s) (let q = length-drop (suc k) s in omega arith) in
       record {
         v = a.v;
@@ -78,7 +78,7 @@ module _ (s : Octets) (bytes : (i : ℕ) → get_or s i 0 < 256) where
         here =
             drop-cons s k 0 h
             ∙ ap (λ (l : Octets). get_or s k 0 ∷ l) (sym (take-append-drop m (drop (suc k) s)) ∙ ap (λ (l : Octets). take m (drop (suc k) s) ++ l) (drop_add s (suc k) m ∙ ap (λ (x : ℕ). drop x s) (sym nx)))
-            ∙ ap (λ (l : Octets). l ++ drop r.next s) (sym w);
+            ∙ ap (λ (l : Octets). l ++ drop r.next.at s) (sym w);
         next_is = let q = ap length w in omega arith;
         inside = omega arith;
       }

@@ -90,9 +90,9 @@ module _ (s : Octets) {C : Type 0} (Q : C → Vocabulary Located → Type 0) whe
   number_did : (a : Either (Read ℕ) NumFault) → Some a → (f : ℕ → ℕ → Got C) → ((n next : ℕ) → Did Q (f (suc n) next)) → Did Q (number a f)
   number_did (Num r) h f g = from_one r.value h
     where
-      from_one : (n : ℕ) → 1 ≤ n → Did Q (f n r.next)
+      from_one : (n : ℕ) → 1 ≤ n → Did Q (f n r.next.at)
       from_one zero h = absurd (omega arith)
-      from_one (suc n) h = g n r.next
+      from_one (suc n) h = g n r.next.at
   number_did (NoNum e) h f g = tt
 
   spelling_did : (form : StringForm) (k next n : ℕ) (a : Got C) → (next + n ≤ length s → Did Q a) → Did Q (spelling form s k next n a)

@@ -1,12 +1,14 @@
 -- Event records: a law for each way out of the functions that judge one, on plain values.
 -- Assumes nothing.
 use mathlib.Core.Path.{◌≡◌, refl, sym}
-use mathlib.Core.Bool.{true, ◌&&◌}
+use mathlib.Core.Bool.{true, false, ◌&&◌}
 use mathlib.Core.List.{List}
 use Prim.Native.Nat.{ℕ, ◌+◌, ◌-◌}
 use native.Mathlib.Omega.{arith}
+use lib.Dec.{eqb}
 use lib.ListN.{take, drop}
 use Rattle.format.specs.declared.StringForm.{StringForm}
+use Rattle.format.specs.declared.StringForm.TheVariants.{Utf8, Utf16, Numeric, Dates, Short, Int, Long}
 use Rattle.fields.specs.Utf8.{is_text}
 use Rattle.fields.proofs.Utf8.{none_text, built_in_texts}
 use Rattle.forms.specs.Reading.{said}
@@ -16,7 +18,28 @@ use Rattle.events.specs.declared.EventString.{EventString}
 use Rattle.events.specs.declared.EventString.TheVariants.{Absent, Empty, Stretch, XmlPrefix, XmlNamespace}
 use Rattle.events.specs.declared.Kind.TheVariants.{Namespace}
 use Rattle.events.specs.declared.Event.{Event}
-use Rattle.write_items.specs.Events.{located_of, optional_of, name_of, event_of, optional_text, name_text, all_text}
+use Rattle.events.specs.Words.{form_tag, string_tag}
+use Rattle.write_items.specs.Events.{is_absent, located_of, optional_of, name_of, event_of, optional_text, name_text, all_text}
+
+-- ---- tags
+
+-- no form has the tag of an absent string
+form_there : (f : StringForm) → eqb (form_tag f) 0 ≡ false
+form_there Utf8 = refl
+form_there Utf16 = refl
+form_there Numeric = refl
+form_there Dates = refl
+form_there Short = refl
+form_there Int = refl
+form_there Long = refl
+
+-- the absent string alone has the tag 0
+pub tag_absent : (x : EventString) → eqb (string_tag x) 0 ≡ is_absent x
+tag_absent Absent = refl
+tag_absent Empty = refl
+tag_absent (Stretch f p n) = form_there f
+tag_absent XmlPrefix = refl
+tag_absent XmlNamespace = refl
 
 -- ---- text
 module _ (text : List ℕ) where
