@@ -1,16 +1,15 @@
 // Event records from words and into words, for callers that have no enums.
-ghost use Rattle.std.specs.Prelude.{◌≡◌, false, ◌&&◌, ◌+◌, ◌*◌, ◌/◌, ◌≤◌, ◌<◌, Some, None, unwrap_or, length, drop, ltb, leb};
+ghost use Rattle.std.specs.Prelude.{◌≡◌, true, false, ◌&&◌, ◌+◌, ◌*◌, ◌/◌, ◌≤◌, ◌<◌, Some, None, is_some, length, drop, ltb, leb};
 ghost use Rattle.format.specs.Numbers.{pick};
-ghost use Rattle.events.specs.Records.{blank};
 ghost use Rattle.std.proofs.lemmas.List.Edits.{sets};
 ghost use Rattle.events.specs.Words.{kind_number, string_words};
 ghost use Rattle.events.specs.Kept.{kept};
-ghost use Rattle.events.specs.FromWords.{kind_of, told_by_tag, told_by, told_at, record_at, records_of, begins_with, Misnamed};
+ghost use Rattle.events.specs.FromWords.{kind_of, told_by, told_at, record_at, records_of, begins_with, Misnamed};
 
 use crate::{Event, EventString, Kind, PLACE, RECORD, kinds, strings, tags};
 use format::StringForm;
 
-// The kind that has this number. Blank is none's: a record of it stands for no event.
+// The kind that has this number, from 1 to 7. 0 is that of Blank, and a record of it stands for no event.
 #[tactic(auto, unfolding(crate::specs::FromWords::kind_of))]
 fn kind_of(number: u32) -> Option<Kind>
     ensures { result ≡ pick (leb 1 number && leb number 7) (Some (kind_of number)) None }
@@ -27,54 +26,75 @@ fn kind_of(number: u32) -> Option<Kind>
     }
 }
 
-// What three words say: a string, or none where they are not well formed.
+// Three words are well formed: they say a string. Beside the tag of a stretch any place and length may stand, beside
+// another tag that says a string both are 0.
 #[tactic(auto, unfolding(crate::specs::FromWords::told_by, crate::specs::FromWords::told_by_tag))]
-fn told_by(tag: u32, place: u32, size: u32) -> Option<EventString>
-    ensures { result ≡ told_by tag place size }
+fn is_told(tag: u32, place: u32, size: u32) -> bool
+    ensures { result ≡ is_some (told_by tag place size) }
 {
-    match (tag, place, size) {
-        (tags::ABSENT, 0, 0) => Some(EventString::Absent),
-        (tags::EMPTY, 0, 0) => Some(EventString::Empty),
-        (tags::STRETCH, _, _) => Some(EventString::Stretch(StringForm::Utf8, place, size)),
-        (tags::XML_PREFIX, 0, 0) => Some(EventString::XmlPrefix),
-        (tags::XML_NAMESPACE, 0, 0) => Some(EventString::XmlNamespace),
-        (tags::UTF16..=tags::LONG, _, _) => {
-            let form = StringForm::of(tag - tags::BEFORE_FORMS);
-            Some(EventString::Stretch(form, place, size))
-        }
-        _ => None,
+    match tag {
+        tags::STRETCH | tags::UTF16..=tags::LONG => true,
+        tags::ABSENT..=tags::XML_NAMESPACE => place == 0 && size == 0,
+        _ => false,
     }
 }
 
-fn told_at(w: &[u32], at: usize) -> Option<EventString>
+fn is_told_at(w: &[u32], at: usize) -> bool
     requires { at + 3 ≤ length w.now }
-    ensures { result ≡ told_at w.now at }
+    ensures { result ≡ is_some (told_at w.now at) }
 {
-    told_by(w[at], w[at + 1], w[at + 2])
+    is_told(w[at], w[at + 1], w[at + 2])
 }
 
-// The record of the words from `at` on, if they are well formed.
-#[tactic(auto, unfolding(crate::specs::FromWords::record_at))]
-fn told_record(w: &[u32], at: usize) -> Option<Event>
-    requires { at + 14 ≤ length w.now }
-    ensures { unwrap_or result blank ≡ record_at w.now at }
+// What three words say that are well formed. Whether they are is tested apart: an Option for each string costs the
+// writer up to a quarter more than a test and a string.
+#[tactic(auto, unfolding(crate::specs::FromWords::told_by, crate::specs::FromWords::told_by_tag))]
+fn string_by(tag: u32, place: u32, size: u32) -> EventString
+    requires { is_some (told_by tag place size) ≡ true }
+    ensures { told_by tag place size ≡ Some result }
 {
-    Some(Event {
-        kind: kind_of(w[at])?,
-        prefix: told_at(w, at + strings::PREFIX)?,
-        namespace: told_at(w, at + strings::NAMESPACE)?,
-        name: told_at(w, at + strings::NAME)?,
-        value: told_at(w, at + strings::VALUE)?,
-        place: w[at + PLACE],
-    })
+    match tag {
+        tags::ABSENT => EventString::Absent,
+        tags::EMPTY => EventString::Empty,
+        tags::STRETCH => EventString::Stretch(StringForm::Utf8, place, size),
+        tags::XML_PREFIX => EventString::XmlPrefix,
+        tags::XML_NAMESPACE => EventString::XmlNamespace,
+        _ => EventString::Stretch(StringForm::of(tag - tags::BEFORE_FORMS), place, size),
+    }
+}
+
+fn string_at(w: &[u32], at: usize) -> EventString
+    requires { (at + 3 ≤ length w.now) × (is_some (told_at w.now at) ≡ true) }
+    ensures { told_at w.now at ≡ Some result }
+{
+    string_by(w[at], w[at + 1], w[at + 2])
 }
 
 // Record n of the words, blank where it is not well formed.
+#[tactic(auto, unfolding(crate::specs::FromWords::record_at))]
 pub fn from_words(w: &[u32], n: usize) -> Event
     requires { 14 * n + 14 ≤ length w.now }
     ensures { result ≡ record_at w.now (14 * n) }
 {
-    told_record(w, RECORD * n).unwrap_or(crate::blank())
+    let at = RECORD * n;
+    let Some(kind) = kind_of(w[at]) else {
+        return crate::blank();
+    };
+    if !(is_told_at(w, at + strings::PREFIX)
+        && is_told_at(w, at + strings::NAMESPACE)
+        && is_told_at(w, at + strings::NAME)
+        && is_told_at(w, at + strings::VALUE))
+    {
+        return crate::blank();
+    }
+    Event {
+        kind,
+        prefix: string_at(w, at + strings::PREFIX),
+        namespace: string_at(w, at + strings::NAMESPACE),
+        name: string_at(w, at + strings::NAME),
+        value: string_at(w, at + strings::VALUE),
+        place: w[at + PLACE],
+    }
 }
 
 // None of the three strings of a name is in another form than utf-8, by their tags. A record where one is stands for no
@@ -137,8 +157,7 @@ pub fn is_kind(w: &[u32], n: usize, kind: Kind) -> bool
     if w[at] != kind.number() {
         return false;
     }
-    told_at(w, at + strings::PREFIX).is_some()
-        && (told_at(w, at + strings::NAMESPACE).is_some()
-            && (told_at(w, at + strings::NAME).is_some()
-                && told_at(w, at + strings::VALUE).is_some()))
+    is_told_at(w, at + strings::PREFIX)
+        && (is_told_at(w, at + strings::NAMESPACE)
+            && (is_told_at(w, at + strings::NAME) && is_told_at(w, at + strings::VALUE)))
 }

@@ -12,21 +12,17 @@ returns-then-w-at c =
     let inside = ltb-true _ _ (sym c.has_record.ensures ∙ c.if-not-has_record.false) in
     other_begins c.args.w.now c.args.n (kind_number c.args.kind) c.requires inside (omega arith)
 
-pub returns-then-is_some-3 : goal.returns-then-is_some-3
-returns-then-is_some-3 c =
+pub returns-then-is_told_at-3 : goal.returns-then-is_told_at-3
+returns-then-is_told_at-3 c =
     let inside = ltb-true _ _ (sym c.has_record.ensures ∙ c.if-not-has_record.false) in
     let told = same_begins c.args.w.now c.args.n (kind_number c.args.kind) c.requires inside (number_le c.args.kind) (omega arith) in
     rw (
       ← told,
-      ← c.told_at.ensures,
-      ← c.is_some.ensures,
-      c.if-is_some.true,
-      ← c.told_at-then-is_some.ensures,
-      ← c.is_some-then-is_some.ensures,
-      c.if-is_some-2.true,
-      ← c.told_at-then-is_some-2.ensures,
-      ← c.is_some-then-is_some-2.ensures,
-      c.if-is_some-3.true,
-      ← c.told_at-then-is_some-3.ensures,
-      ← c.is_some-then-is_some-3.ensures,
+      ← c.is_told_at.ensures,
+      c.if-is_told_at.true,
+      ← c.is_told_at-then-is_told_at.ensures,
+      c.if-is_told_at-2.true,
+      ← c.is_told_at-then-is_told_at-2.ensures,
+      c.if-is_told_at-3.true,
+      ← c.is_told_at-then-is_told_at-3.ensures,
     )
