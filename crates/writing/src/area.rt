@@ -63,8 +63,8 @@ impl Room<'_> {
 
     // The first string that has the octets of the one at hand, so that the text area of a document's events is no longer
     // than the document, however often a name comes again. The strings are found by their hash, which stands beside each,
-    // so that of those from its slot on only the octets of one with the same hash are compared. Where no slot is left, the
-    // strings have more octets than a text area may have, and none matters.
+    // so that of those from its slot on only the octets of one with the same hash are compared. Where no slot is left,
+    // the strings have more octets than a text area may have, and none matters.
     pub fn first_same(&mut self, hash: u32, mine: Stretch) -> Stretch {
         let n = self.known.len();
         for k in 0..n {
